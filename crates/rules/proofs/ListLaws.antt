@@ -1,0 +1,213 @@
+-- Laws of All, Any and All2, and of the ways of a stack to be read and cut.
+use mathlib.Core.Path.{_≡_, refl, sym, ap, _∙_}
+use mathlib.Core.List.{List, [], _∷_, _++_, map}
+use mathlib.Core.Option.{Option, none, some}
+use mathlib.Core.Bool.{Bool, true, false, _&&_, _||_, and-eq-true-iff}
+use Prim.Native.Nat.{ℕ, zero, suc, _-_, _≤_}
+use native.Mathlib.Omega.{arith}
+use lib.ListN.{length, take, drop, getElem?, getD}
+use lib.Dec.{leb}
+use borrow.Author.Tests.{leb-true}
+use Rattle.rules.specs.Base.{all, any, if_then_else_}
+use Rattle.rules.specs.Stacks.{slot, split}
+use Rattle.rules.specs.Lists.{All, l[], _l∷_, Any, here, there, All2, a[], _a∷_}
+
+pub none-some : {A : Type 0} {v : A} → _≡_ {A = Option A} none (some v) → ⊥
+none-some p = let z : _≡_ {A = ℕ} 0 1 = cc in omega arith
+
+pub some-inj : {A : Type 0} {v w : A} → _≡_ {A = Option A} (some v) (some w) → v ≡ w
+some-inj p = cc
+
+pub false-true : false ≡ true → ⊥
+false-true p = let z : _≡_ {A = ℕ} 0 1 = cc in omega arith
+
+module _ {A B : Type 0} {R : A → B → Type 0} where
+  pub all2-length : {xs : List A} {ys : List B} → All2 R xs ys → length xs ≡ length ys
+  all2-length a[] = refl
+  all2-length (r a∷ p) = ap suc (all2-length p)
+
+  pub all2-append : {xs xs′ : List A} {ys ys′ : List B} → All2 R xs ys → All2 R xs′ ys′ → All2 R (xs ++ xs′) (ys ++ ys′)
+  all2-append a[] q = q
+  all2-append (r a∷ p) q = r a∷ all2-append p q
+
+  pub all2-take : (k : ℕ) {xs : List A} {ys : List B} → All2 R xs ys → All2 R (take k xs) (take k ys)
+  all2-take zero p = a[]
+  all2-take (suc k) a[] = a[]
+  all2-take (suc k) (r a∷ p) = r a∷ all2-take k p
+
+  pub all2-drop : (k : ℕ) {xs : List A} {ys : List B} → All2 R xs ys → All2 R (drop k xs) (drop k ys)
+  all2-drop zero p = p
+  all2-drop (suc k) a[] = a[]
+  all2-drop (suc k) (r a∷ p) = all2-drop k p
+
+  pub all2-at : (n : ℕ) {xs : List A} {ys : List B} {y : B} → All2 R xs ys → getElem? ys n ≡ some y → (x : A) × (getElem? xs n ≡ some x) × R x y
+  all2-at n a[] e = absurd (none-some e)
+  all2-at zero (_a∷_ {x} r p) e = (x, refl, (rw (some-inj e) at r))
+  all2-at (suc n) (r a∷ p) e = all2-at n p e
+
+  -- where the second has a slot, so has the first, and the two are related
+  pub all2-slot : (n : ℕ) {xs : List A} {ys : List B} {y : B} → All2 R xs ys → slot n ys ≡ some y → (x : A) × (slot n xs ≡ some x) × R x y
+  all2-slot zero p e = absurd (none-some e)
+  all2-slot (suc n) p e = all2-at n p e
+
+-- the parts of a split that is there
+pub split-parts : {A : Type 0} (n : ℕ) (xs : List A) {p : List A × List A} → split n xs ≡ some p → (n ≤ length xs) × (p ≡ (take (length xs - n) xs, drop (length xs - n) xs))
+unfolding split
+split-parts {A} n xs {p} e = go (leb n (length xs)) refl e
+  where
+    go : (t : Bool) → leb n (length xs) ≡ t
+        → _≡_ {A = Option (List A × List A)} (if t then some (take (length xs - n) xs, drop (length xs - n) xs) else none) (some p)
+        → (n ≤ length xs) × (p ≡ (take (length xs - n) xs, drop (length xs - n) xs))
+    go true h e = (leb-true n (length xs) h, cc)
+    go false h e = absurd (none-some e)
+
+module _ {A B : Type 0} {R : A → B → Type 0} where
+  -- where the second can be split, so can the first
+  pub all2-split : (n : ℕ) {xs : List A} {ys : List B} {q : List B × List B} → All2 R xs ys → split n ys ≡ some q
+      → (p : List A × List A) × (split n xs ≡ some p) × All2 R (p .0) (q .0) × All2 R (p .1) (q .1)
+  unfolding split
+  all2-split n {xs} {ys} {q} p e = go (leb n (length ys)) refl e
+    where
+      k : ℕ
+      k = length ys - n
+
+      go : (t : Bool) → leb n (length ys) ≡ t → _≡_ {A = Option (List B × List B)} (if t then some (take (length ys - n) ys, drop (length ys - n) ys) else none) (some q)
+          → (p : List A × List A) × (split n xs ≡ some p) × All2 R (p .0) (q .0) × All2 R (p .1) (q .1)
+      go true h e =
+          let eq : (take (length ys - n) ys, drop (length ys - n) ys) ≡ q = some-inj e in (
+            (take (length ys - n) xs, drop (length ys - n) xs),
+            rw (all2-length p, split, h),
+            rw (← ap (λ (z : List B × List B). z .0) eq) (all2-take (length ys - n) p),
+            rw (← ap (λ (z : List B × List B). z .1) eq) (all2-drop (length ys - n) p),
+          )
+      go false h e = absurd (none-some e)
+
+module _ {A B : Type 0} {R : A → B → Type 0} where
+  pub all2-slots : (n : ℕ) {xs : List A} {ys : List B} {x : A} {y : B} → All2 R xs ys → slot n xs ≡ some x → slot n ys ≡ some y → R x y
+  all2-slots n p e e′ =
+      let r = all2-slot n p e′ in
+      rw (some-inj (sym (r .1) ∙ e)) at (r .2)
+
+  pub all2-splits : (n : ℕ) {xs : List A} {ys : List B} {p : List A × List A} {q : List B × List B} → All2 R xs ys → split n xs ≡ some p → split n ys ≡ some q → All2 R (p .0) (q .0) × All2 R (p .1) (q .1)
+  all2-splits n a e e′ =
+      let r = all2-split n a e′ in
+      let same = some-inj (sym (r .1) ∙ e) in
+      ((rw same at (r .2)), (rw same at (r .3)))
+
+pub all2-map : {A B : Type 0} {R Q : A → B → Type 0} → ((x : A) (y : B) → R x y → Q x y) → {xs : List A} {ys : List B} → All2 R xs ys → All2 Q xs ys
+all2-map f a[] = a[]
+all2-map f (_a∷_ {x} {y} r p) = f x y r a∷ all2-map f p
+
+-- the first by a map, the second by another
+pub all2-maps : {A B C D : Type 0} {R : A → B → Type 0} {Q : C → D → Type 0} (g : A → C) (h : B → D) → ((x : A) (y : B) → R x y → Q (g x) (h y)) → {xs : List A} {ys : List B} → All2 R xs ys → All2 Q (map g xs) (map h ys)
+all2-maps g h f a[] = a[]
+all2-maps g h f (_a∷_ {x} {y} r p) = f x y r a∷ all2-maps g h f p
+
+pub all-map : {A : Type 0} {P Q : A → Type 0} → ((x : A) → P x → Q x) → {xs : List A} → All P xs → All Q xs
+all-map f l[] = l[]
+all-map f (_l∷_ {x} r p) = f x r l∷ all-map f p
+
+pub all-any : {A : Type 0} (xs : List A) → All (λ x. Unit {0}) xs
+all-any [] = l[]
+all-any (x ∷ xs) = tt l∷ all-any xs
+
+-- both of all
+pub all-both : {A : Type 0} {P Q : A → Type 0} {xs : List A} → All P xs → All Q xs → All (λ x. P x × Q x) xs
+all-both l[] l[] = l[]
+all-both (p l∷ ps) (q l∷ qs) = (p, q) l∷ all-both ps qs
+
+pub all-append : {A : Type 0} {P : A → Type 0} {xs ys : List A} → All P xs → All P ys → All P (xs ++ ys)
+all-append l[] q = q
+all-append (p l∷ ps) q = p l∷ all-append ps q
+
+pub all-at : {A : Type 0} {P : A → Type 0} {xs : List A} (n : ℕ) {x : A} → All P xs → getElem? xs n ≡ some x → P x
+all-at n l[] e = absurd (none-some e)
+all-at zero (p l∷ ps) e = rw (some-inj e) at p
+all-at (suc n) (p l∷ ps) e = all-at n ps e
+
+pub all-take : {A : Type 0} {P : A → Type 0} (n : ℕ) {l : List A} → All P l → All P (take n l)
+all-take zero p = l[]
+all-take (suc n) l[] = l[]
+all-take (suc n) (p l∷ ps) = p l∷ all-take n ps
+
+pub all-drop : {A : Type 0} {P : A → Type 0} (n : ℕ) {l : List A} → All P l → All P (drop n l)
+all-drop zero p = p
+all-drop (suc n) l[] = l[]
+all-drop (suc n) (p l∷ ps) = all-drop n ps
+
+pub all-getD : {A : Type 0} {P : A → Type 0} {l : List A} (n : ℕ) (d : A) → P d → All P l → P (getD l n d)
+all-getD n d h l[] = h
+all-getD zero d h (p l∷ ps) = p
+all-getD (suc n) d h (p l∷ ps) = all-getD n d h ps
+
+pub all-last : {A : Type 0} {P : A → Type 0} (xs : List A) {x : A} → All P (xs ++ (x ∷ [])) → P x
+all-last [] (p l∷ l[]) = p
+all-last (y ∷ xs) (p l∷ ps) = all-last xs ps
+
+-- of a list of one, of two
+pub all-one : {A : Type 0} {P : A → Type 0} {l : List A} {x : A} → l ≡ x ∷ [] → All P l → P x
+all-one e h = one (rw e at h)
+  where
+    one : {A : Type 0} {P : A → Type 0} {x : A} → All P (x ∷ []) → P x
+    one (p l∷ l[]) = p
+
+pub all-two : {A : Type 0} {P : A → Type 0} {l : List A} {x y : A} → l ≡ x ∷ y ∷ [] → All P l → P x × P y
+all-two e h = one (rw e at h)
+  where
+    one : {A : Type 0} {P : A → Type 0} {x y : A} → All P (x ∷ y ∷ []) → P x × P y
+    one (p l∷ q l∷ l[]) = (p, q)
+
+-- related, and more is known of the first
+pub all2-also : {A B : Type 0} {R : A → B → Type 0} {P : A → Type 0} {xs : List A} {ys : List B} → All2 R xs ys → All P xs → All2 (λ x y. R x y × P x) xs ys
+all2-also a[] l[] = a[]
+all2-also (r a∷ p) (q l∷ qs) = (r, q) a∷ all2-also p qs
+
+-- what is related to what all have
+pub all-from : {A B : Type 0} {R : A → B → Type 0} {P : A → Type 0} {Q : B → Type 0} → ((x : A) (y : B) → R x y → Q y → P x) → {xs : List A} {ys : List B} → All2 R xs ys → All Q ys → All P xs
+all-from g a[] l[] = l[]
+all-from g (_a∷_ {x} {y} r p) (q l∷ qs) = g x y r q l∷ all-from g p qs
+
+pub any-map : {A : Type 0} {P Q : A → Type 0} → ((x : A) → P x → Q x) → {xs : List A} → Any P xs → Any Q xs
+any-map f (here {x} p) = here (f x p)
+any-map f (there p) = there (any-map f p)
+
+-- what holds of all and of some holds of one together
+pub any-all : {A : Type 0} {P Q : A → Type 0} {Z : Type 0} → ((x : A) → P x → Q x → Z) → {xs : List A} → All P xs → Any Q xs → Z
+any-all f (_l∷_ {x} p ps) (here q) = f x p q
+any-all f (p l∷ ps) (there q) = any-all f ps q
+
+pub any-append-left : {A : Type 0} {P : A → Type 0} {xs : List A} (ys : List A) → Any P xs → Any P (xs ++ ys)
+any-append-left ys (here p) = here p
+any-append-left ys (there p) = there (any-append-left ys p)
+
+pub any-append-right : {A : Type 0} {P : A → Type 0} (xs : List A) {ys : List A} → Any P ys → Any P (xs ++ ys)
+any-append-right [] p = p
+any-append-right (x ∷ xs) p = there (any-append-right xs p)
+
+pub any-mapped : {A B : Type 0} {P : A → Type 0} {Q : B → Type 0} (g : A → B) → ((x : A) → P x → Q (g x)) → {xs : List A} → Any P xs → Any Q (map g xs)
+any-mapped g f (here {x} p) = here (f x p)
+any-mapped g f (there p) = there (any-mapped g f p)
+
+pub all-mapped : {A B : Type 0} {P : A → Type 0} {Q : B → Type 0} (g : A → B) → ((x : A) → P x → Q (g x)) → {xs : List A} → All P xs → All Q (map g xs)
+all-mapped g f l[] = l[]
+all-mapped g f (_l∷_ {x} p ps) = f x p l∷ all-mapped g f ps
+
+---- The tests that compute
+
+pub and-left : (a b : Bool) → (a && b) ≡ true → a ≡ true
+and-left a b h = (and-eq-true-iff a b) .0 h .0
+
+pub and-right : (a b : Bool) → (a && b) ≡ true → b ≡ true
+and-right a b h = (and-eq-true-iff a b) .0 h .1
+
+pub all-true : {A : Type 0} {P : A → Type 0} (f : A → Bool) → ((x : A) → f x ≡ true → P x) → (xs : List A) → all f xs ≡ true → All P xs
+all-true f g [] h = l[]
+all-true f g (x ∷ xs) h = g x (and-left (f x) (all f xs) h) l∷ all-true f g xs (and-right (f x) (all f xs) h)
+
+pub any-true : {A : Type 0} {P : A → Type 0} (f : A → Bool) → ((x : A) → f x ≡ true → P x) → (xs : List A) → any f xs ≡ true → Any P xs
+any-true f g [] h = absurd (false-true h)
+any-true {A} {P} f g (x ∷ xs) h = one (λ e. any-true f g xs e) (f x) refl h
+  where
+    one : (any f xs ≡ true → Any P xs) → (b : Bool) → f x ≡ b → (b || any f xs) ≡ true → Any P (x ∷ xs)
+    one ih true e w = here (g x e)
+    one ih false e w = there (ih w)

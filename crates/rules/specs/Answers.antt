@@ -1,0 +1,74 @@
+-- What the code's answers say, in the numbers and places of document 01: `refusalOf` is the one definition of them.
+use mathlib.Core.List.{List}
+use Prim.Native.Nat.{ℕ}
+use lib.ListN.{length}
+use Rattle.rules.specs.declared.answers.Place.{Place}
+use Rattle.rules.specs.declared.answers.Reason.{Reason}
+use Rattle.rules.specs.declared.answers.Reason.the-variants as reason
+use Rattle.rules.specs.declared.answers.Counts.{Counts}
+use Rattle.rules.specs.declared.answers.Verdict.{Verdict}
+use Rattle.rules.specs.declared.answers.Verdict.the-variants as verdict
+use Rattle.rules.specs.declared.answers.Copied.{Copied}
+use Rattle.rules.specs.declared.answers.Copied.the-variants as copied
+use Rattle.rules.specs.declared.answers.Ending as ending
+use Rattle.rules.specs.declared.answers.Ending.the-variants as ends
+use Rattle.rules.specs.declared.answers.Answer as answers
+use Rattle.rules.specs.Base.{Refusal, refusal, Tried, found, refused}
+use Rattle.rules.specs.Run.{Ending, finished, aborted, refusedWith, Answer, answer}
+
+-- a number at an instruction of a function
+abbrev pub at : ℕ → Place → Refusal
+at number p = refusal number (p .function) (p .instruction)
+
+abbrev pub refusalOf : Reason → Refusal
+refusalOf reason.BadLength = refusal 1 0 0
+refusalOf (reason.BadBlockCheck block) = refusal 2 block 0
+refusalOf (reason.BadBlock block) = refusal 3 block 0
+refusalOf (reason.BadRecord offset) = refusal 4 offset 0
+refusalOf (reason.BadConstructor c) = refusal 5 0 c
+refusalOf (reason.BadSignature f) = refusal 5 1 f
+refusalOf (reason.UnboundedArgument f argument) = refusal 6 f argument
+refusalOf (reason.BadFlow p) = at 7 p
+refusalOf (reason.BadTypes p) = at 8 p
+refusalOf (reason.TooManyForms p) = at 9 p
+refusalOf (reason.NotCovered p) = at 10 p
+refusalOf (reason.NoEntry entry) = refusal 11 entry 0
+refusalOf reason.ArgumentsTooLong = refusal 12 65535 0
+refusalOf (reason.BadArgument offset) = refusal 12 offset 0
+refusalOf (reason.OutputTooShort needed) = refusal 13 needed 0
+refusalOf reason.BadPayload = refusal 18 0 0
+refusalOf (reason.BudgetSpent p) = at 14 p
+refusalOf (reason.OutOfCells p) = at 15 p
+refusalOf (reason.OutOfStack p) = at 16 p
+refusalOf (reason.OutOfFrames p) = at 17 p
+
+-- check: `told r ≡ verdictOf (now (program .entry))`
+abbrev pub told : Verdict → Tried Counts
+told (verdict.Accepted counts) = found counts
+told (verdict.Refused r) = refused (refusalOf r)
+
+-- pack and unpack: `toldCopied r ≡ lengthOf (pack (now (payload .entry)) (length (now (out .entry))))`
+abbrev pub toldCopied : Copied → Tried ℕ
+toldCopied (copied.Bytes n) = found n
+toldCopied (copied.Refused r) = refused (refusalOf r)
+
+abbrev pub lengthOf : Tried (List ℕ) → Tried ℕ
+lengthOf (found bytes) = found (length bytes)
+lengthOf (refused r) = refused r
+
+-- run: `toldRun r ≡ measured (run ..)`, "the answer gives the figure's length"
+abbrev pub toldEnding : ending.Ending → Ending ℕ
+toldEnding (ends.Result n) = finished n
+toldEnding ends.Aborted = aborted
+toldEnding (ends.Refused r) = refusedWith (refusalOf r)
+
+abbrev pub toldRun : answers.Answer → Answer ℕ
+toldRun r = answer (toldEnding (r .ending)) (r .steps)
+
+abbrev pub measuredEnding : Ending (List ℕ) → Ending ℕ
+measuredEnding (finished bytes) = finished (length bytes)
+measuredEnding aborted = aborted
+measuredEnding (refusedWith r) = refusedWith r
+
+abbrev pub measured : Answer (List ℕ) → Answer ℕ
+measured a = answer (measuredEnding (a .ending)) (a .steps)

@@ -1,0 +1,67 @@
+// The answers of check, run, pack and unpack. The definition `refusalOf` gives document 01's number and places for each reason.
+
+// An instruction of a function.
+pub struct Place {
+    pub function: usize,
+    pub instruction: usize,
+}
+
+// Why a program, a call or a payload is refused, in the order of document 01's list.
+pub enum Reason {
+    // A damaged file.
+    BadLength,
+    BadBlockCheck { block: usize },
+    BadBlock { block: usize },
+    // The program's author.
+    BadRecord { offset: usize },
+    BadConstructor { constructor: usize },
+    BadSignature { function: usize },
+    UnboundedArgument { function: usize, argument: usize },
+    BadFlow(Place),
+    BadTypes(Place),
+    TooManyForms(Place),
+    NotCovered(Place),
+    // The call.
+    NoEntry { entry: usize },
+    ArgumentsTooLong,
+    BadArgument { offset: usize },
+    OutputTooShort { needed: usize },
+    BadPayload,
+    // The tables lent.
+    BudgetSpent(Place),
+    OutOfCells(Place),
+    OutOfStack(Place),
+    OutOfFrames(Place),
+}
+
+// How many types, constructors and functions an accepted program has.
+pub struct Counts {
+    pub types: u8,
+    pub constructors: u8,
+    pub functions: u8,
+}
+
+// The answer of check.
+pub enum Verdict {
+    Accepted(Counts),
+    Refused(Reason),
+}
+
+// The answer of pack and of unpack: how many bytes stand at the output's front.
+pub enum Copied {
+    Bytes(usize),
+    Refused(Reason),
+}
+
+// How a run ends: with a result of so many bytes, by the program's own stop, or refused.
+pub enum Ending {
+    Result(usize),
+    Aborted,
+    Refused(Reason),
+}
+
+// The answer of run.
+pub struct Answer {
+    pub ending: Ending,
+    pub steps: u32,
+}
