@@ -20,3 +20,4 @@ pub mod Tally
 pub mod RunLaws
 pub mod TallyRun
 pub mod ResultLaws
+pub mod ContainerLaws

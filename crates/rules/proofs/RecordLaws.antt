@@ -16,6 +16,7 @@ use Rattle.rules.specs.Base.{Tried, found, refused, refusal, Check, pass
 use Rattle.rules.specs.Lists.{All, l[], _l∷_}
 use Rattle.rules.specs.Program.{Constructor, Function, Program}
 use Rattle.rules.specs.Records.{fourAt, headerAt, declarationAt, constructorAt, headAt, alternativeAt, instructionAt, pastZero, headerRight, declarationRight, constructorRight, headRight, alternativeRight, operation, isSome, constructorOffset, alternativeOffset, codeOffset, instructionOffset, headOffset, recordRight, constructorCheck, alternativeCheck, instructionCheck, functionRight, constructorsRight, functionsRight, nothingLeft, recordsRight, argumentsOf, constructorOf, alternativeOf, instructionOf, functionOf, programOf, decode}
+use Rattle.rules.specs.Opened.{FunctionThere, RecordsThere}
 use Rattle.rules.proofs.ListLaws.{and-left, and-right, all-true, all-take}
 use Rattle.rules.proofs.TriedLaws.{bind-found, found-inj, required}
 use Rattle.rules.proofs.NumberedLaws.{numbered-length, numbered-all, forEach-at}
@@ -50,17 +51,7 @@ arguments-length bytes at h = length-take-le (byteAt bytes (at + 1)) (fourAt byt
 
 ---- A function
 
--- where the records of a function at an offset are right
-pub record FunctionThere (bytes : List ℕ) (at : ℕ) : Type 0 where
-  pub head : at + 10 ≤ length bytes
-  pub arity : byteAt bytes (at + 1) ≤ 4
-  pub some-alternatives : 1 ≤ byteAt bytes (at + 6)
-  pub few-alternatives : byteAt bytes (at + 6) ≤ 4
-  pub some-code : 1 ≤ wordAt bytes (at + 8)
-  pub short-code : wordAt bytes (at + 8) ≤ 256
-  pub alternative : (k : ℕ) → k < byteAt bytes (at + 6) → (alternativeOffset at k + 6 ≤ length bytes) × (alternativeRight (byteAt bytes (at + 1)) (alternativeAt bytes (alternativeOffset at k)) ≡ true)
-  pub instruction : (i : ℕ) → i < wordAt bytes (at + 8) → (instructionOffset (codeOffset bytes at) i + 4 ≤ length bytes) × (isSome (operation (instructionAt bytes (instructionOffset (codeOffset bytes at) i))) ≡ true)
-
+-- where the records of a function are right, it is there
 pub function-there : (bytes : List ℕ) (at : ℕ) {u : Unit {0}} → functionRight bytes at ≡ found u → FunctionThere bytes at
 unfolding functionRight headRight
 function-there bytes at e =
@@ -86,14 +77,6 @@ function-there bytes at e =
     }
 
 ---- All records
-
--- a payload whose records are right
-pub record RecordsThere (bytes : List ℕ) : Type 0 where
-  pub header : 4 ≤ length bytes
-  pub header-right : headerRight (headerAt bytes 0) ≡ true
-  pub constructor : (c : ℕ) → c < byteAt bytes 2 → (constructorOffset c + 8 ≤ length bytes) × (byteAt bytes (constructorOffset c + 1) ≤ 4)
-  pub function : (g : ℕ) → g < byteAt bytes 3 → FunctionThere bytes (headOffset bytes g)
-  pub end : headOffset bytes (byteAt bytes 3) ≡ length bytes
 
 pub records-there : (bytes : List ℕ) {u : Unit {0}} → recordsRight bytes ≡ found u → RecordsThere bytes
 unfolding recordsRight constructorsRight functionsRight constructorRight nothingLeft

@@ -8,12 +8,14 @@ use Rattle.rules.specs.declared.answers.Reason.the-variants as reason
 use Rattle.rules.specs.declared.answers.Counts.{Counts}
 use Rattle.rules.specs.declared.answers.Verdict.{Verdict}
 use Rattle.rules.specs.declared.answers.Verdict.the-variants as verdict
-use Rattle.rules.specs.declared.answers.Copied.{Copied}
-use Rattle.rules.specs.declared.answers.Copied.the-variants as copied
+use Rattle.rules.specs.declared.answers.Length.{Length}
+use Rattle.rules.specs.declared.answers.Length.the-variants as long
+use Rattle.rules.specs.declared.answers.Checked.{Checked}
+use Rattle.rules.specs.declared.answers.Checked.the-variants as rule
 use Rattle.rules.specs.declared.answers.Ending as ending
 use Rattle.rules.specs.declared.answers.Ending.the-variants as ends
 use Rattle.rules.specs.declared.answers.Answer as answers
-use Rattle.rules.specs.Base.{Refusal, refusal, Tried, found, refused}
+use Rattle.rules.specs.Base.{Refusal, refusal, Tried, found, refused, Check, passed}
 use Rattle.rules.specs.Run.{Ending, finished, aborted, refusedWith, Answer, answer}
 
 -- a number at an instruction of a function
@@ -47,14 +49,19 @@ abbrev pub told : Verdict → Tried Counts
 told (verdict.Accepted counts) = found counts
 told (verdict.Refused r) = refused (refusalOf r)
 
--- pack and unpack: `toldCopied r ≡ lengthOf (pack (now (payload .entry)) (length (now (out .entry))))`
-abbrev pub toldCopied : Copied → Tried ℕ
-toldCopied (copied.Bytes n) = found n
-toldCopied (copied.Refused r) = refused (refusalOf r)
+-- pack and unpack: `toldLength r ≡ lengthOf (pack (now (payload .entry)) (length (now (out .entry))))`
+abbrev pub toldLength : Length → Tried ℕ
+toldLength (long.Bytes n) = found n
+toldLength (long.Refused r) = refused (refusalOf r)
 
 abbrev pub lengthOf : Tried (List ℕ) → Tried ℕ
 lengthOf (found bytes) = found (length bytes)
 lengthOf (refused r) = refused r
+
+-- a pass of the check: `toldCheck r ≡ flowRight (programOf ..)`
+abbrev pub toldCheck : Checked → Check
+toldCheck rule.Right = passed
+toldCheck (rule.Refused r) = refused (refusalOf r)
 
 -- run: `toldRun r ≡ measured (run ..)`, "the answer gives the figure's length"
 abbrev pub toldEnding : ending.Ending → Ending ℕ

@@ -1,6 +1,6 @@
 -- `unfolding computed` opens every definition that a closed computation of pack, unpack, check or run goes through.
 use Rattle.rules.specs.Base.{numbered, forEach, each}
-use Rattle.rules.specs.Container.{weighed, blockCheck, usedRight, blockRight, verifyBlock, verifyBlocks, lengthRight, verify, payloadOf, payload, blockBody, block, blocksOf, blockCount, packed, pack, unpack}
+use Rattle.rules.specs.Container.{weighed, blockCheck, usedRight, blockRight, verifyBlock, verifyBlocks, lengthRight, verify, payloadOf, payload, verified, blockBody, block, blocksOf, blockCount, packed, pack, unpack}
 use Rattle.rules.specs.Records.{headerRight, declarationRight, constructorRight, headRight, alternativeRight, operation, headOffset, recordRight, functionRight, constructorsRight, functionsRight, nothingLeft, recordsRight, constructorOf, alternativeOf, instructionOf, functionOf, programOf, decode}
 use Rattle.rules.specs.Declarations.{weightRight, constructorRule, signatureRule, declarationsRight, counted, argumentRule, boundRule, boundsRight}
 use Rattle.rules.specs.Stacks.{split}
@@ -18,7 +18,7 @@ use Rattle.rules.specs.Memory.{begun}
 
 unfoldable pub computed : Unit {0}
 unfolding numbered forEach each
-    weighed blockCheck usedRight blockRight verifyBlock verifyBlocks lengthRight verify payloadOf payload blockBody block blocksOf blockCount packed pack unpack
+    weighed blockCheck usedRight blockRight verifyBlock verifyBlocks lengthRight verify payloadOf payload verified blockBody block blocksOf blockCount packed pack unpack
     headerRight declarationRight constructorRight headRight alternativeRight operation headOffset recordRight functionRight constructorsRight functionsRight nothingLeft recordsRight constructorOf alternativeOf instructionOf functionOf programOf decode
     weightRight constructorRule signatureRule declarationsRight counted argumentRule boundRule boundsRight
     split arriving walk

@@ -62,6 +62,12 @@ payloadOf (suc n) bytes = take (wordAt bytes 2) (drop 4 bytes) ++ payloadOf n (d
 unfoldable pub payload : List ℕ → List ℕ
 payload file = payloadOf (length file / 512) file
 
+-- the payload of blocks that are right
+unfoldable pub verified : List ℕ → Tried (List ℕ)
+verified file = do
+  _ ← verify file
+  found (payload file)
+
 -- where payload byte k stands in the blocks
 abbrev pub placeOf : ℕ → ℕ
 placeOf k = 512 * (k / 504) + 4 + k % 504
@@ -103,7 +109,6 @@ pack bytes room = do
 -- "unpack 1 to 3 then 13"
 unfoldable pub unpack : List ℕ → ℕ → Tried (List ℕ)
 unpack file room = do
-  let needed = length (payload file)
-  _ ← verify file
-  _ ← require (leb needed room) (refusal 13 needed 0)
-  found (payload file)
+  bytes ← verified file
+  _ ← require (leb (length bytes) room) (refusal 13 (length bytes) 0)
+  found bytes

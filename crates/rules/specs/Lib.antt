@@ -3,6 +3,7 @@ pub mod Lists
 pub mod Container
 pub mod Program
 pub mod Records
+pub mod Opened
 pub mod Declarations
 pub mod Tree
 pub mod Stacks

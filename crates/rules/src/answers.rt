@@ -1,4 +1,4 @@
-// The answers of check, run, pack and unpack. The definition `refusalOf` gives document 01's number and places for each reason.
+// The answers of check, run, pack, unpack and verify. The definition `refusalOf` gives document 01's number and places for each reason.
 
 // An instruction of a function.
 pub struct Place {
@@ -47,9 +47,15 @@ pub enum Verdict {
     Refused(Reason),
 }
 
-// The answer of pack and of unpack: how many bytes stand at the output's front.
-pub enum Copied {
+// How many bytes: those that pack or unpack wrote to the output's front, or those of a verified payload.
+pub enum Length {
     Bytes(usize),
+    Refused(Reason),
+}
+
+// A rule, or all rules of one pass: they hold, or why they do not.
+pub enum Checked {
+    Right,
     Refused(Reason),
 }
 
