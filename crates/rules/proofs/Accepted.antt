@@ -1,4 +1,4 @@
--- A sheet that passes the check is accepted: its type and shape tables hold of every instruction at once.
+-- A program that passes the check: its type and shape tables hold of every instruction at once.
 use mathlib.Core.Path.{_≡_, refl}
 use mathlib.Core.List.{List, [], _∷_}
 use mathlib.Core.Option.{some}

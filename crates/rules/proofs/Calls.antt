@@ -121,9 +121,9 @@ module _ (s : Program) (n : ℕ) (f : Function) {T : List (List Bool)} (w : Walk
       (λ k ins g y M r p. let one : 1 + k ≡ suc k = omega arith in rule-free s n f (arrived (found T)) flow-stands flow-there (1 + k) ins (rw one g) y M r p)
       ((λ _. plain-fresh 0 (arity f)) l∷ l[]) d e)
 
-pub branch-promise : BranchFact
+pub branch-fact : BranchFact
 unfolding flowRight flowOf sizesRight shapesOf
-branch-promise bytes s e n f at-f i x h c b at-i =
+branch-fact bytes s e n f at-f i x h c b at-i =
     let P = checked-parts bytes s e in
     let t = each-found flowOf 0 (s .functions) (P .flow) n at-f in
     let v = each-found (shapesOf s) 0 (s .functions) (P .shapes) n at-f in

@@ -94,7 +94,7 @@ verified-used last k b e =
     let form = required (blockRight last k b) (refusal 3 k 0) (r .2) in
     (and-eq-true-iff number (usedRight last (wordAt b 2))) .0 ((and-eq-true-iff (number && usedRight last (wordAt b 2)) unused) .0 form .0) .1
 
--- the used count of the first block of a sheet
+-- the used count of the first block of a file
 pub used-of-first : (s : List ℕ) → 512 ≤ length s → wordAt (take 512 s) 2 ≡ wordAt s 2
 used-of-first s h = rw (getD-take 512 s 2 0 (omega arith), getD-take 512 s 3 0 (omega arith))
 

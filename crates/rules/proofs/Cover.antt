@@ -110,9 +110,9 @@ module _ {bytes : List ℕ} {s : Program} (P : Passed bytes s) (small : All (λ 
           (λ a (q : Small 65535 a). made-fits s (a .coefficients) (a .constant) (q .0) (q .1) (le-trans (le-of-eq (forms-length s es)) few) (forms-of s (all-map (λ e q. all-map (λ a z. z .0) q) h)) (forms-of s (all-map (λ e q. all-map (λ a z. (z .1, z .2)) q) h)))
           (bound-numbers P small g f e)
 
-pub cover-promise : CoverFact
+pub cover-fact : CoverFact
 unfolding coveredAt
-cover-promise bytes s small e n f at-f i x h = (entries, makes)
+cover-fact bytes s small e n f at-f i x h = (entries, makes)
   where
     entries : All (λ e. All (Fits16 15 126735) (formOf s e)) (x .stack)
     entries =

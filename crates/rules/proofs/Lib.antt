@@ -16,8 +16,8 @@ pub mod ProgramLaws
 pub mod Linear
 pub mod Calls
 pub mod Cover
-pub mod Tally
+pub mod Reachable
 pub mod RunLaws
-pub mod TallyRun
+pub mod Promise
 pub mod ResultLaws
 pub mod ContainerLaws

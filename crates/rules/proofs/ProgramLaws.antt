@@ -1,4 +1,4 @@
--- The numbers of a sheet whose file is bytes: weights up to 255, constants up to 65,535, coefficients up to 15.
+-- The numbers of a program whose file is bytes: weights up to 255, constants up to 65,535, coefficients up to 15.
 use mathlib.Core.Path.{_≡_, refl}
 use mathlib.Core.List.{List}
 use mathlib.Core.Option.{some}

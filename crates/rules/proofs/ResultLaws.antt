@@ -1,4 +1,4 @@
--- A resultOf's length fits 32 bits: it is at most 1 and four times its size, which the bound keeps small.
+-- A result's length fits 32 bits: it is at most 1 and four times its size, which the size bound keeps small.
 use mathlib.Core.Path.{_≡_, refl, sym, ap, _∙_}
 use mathlib.Core.List.{List, [], _∷_, _++_, map}
 use mathlib.Core.Option.{Option, none, some}
@@ -20,7 +20,7 @@ use Rattle.rules.proofs.Models.{to-from, size-total}
 use Rattle.rules.proofs.PrefixLaws.{arguments-typed}
 use Rattle.rules.proofs.Accepted.{Passed, checked-parts}
 use Rattle.rules.proofs.ProgramLaws.{weight-most, weight-least, bound-numbers}
-use Rattle.rules.proofs.Tally.{begins, kept-after, result-kept}
+use Rattle.rules.proofs.Reachable.{begins, kept-after, result-kept}
 
 ---- Sizes
 
@@ -37,7 +37,7 @@ bound-small [] zs K h = zero-le
 bound-small (a ∷ bound) zs K (h l∷ hs) = max-le h (bound-small bound zs K hs)
 
 module _ (s : Program) where
-  -- the weights of a sheet: at most 255, and with arguments, which are at most four, at least 1
+  -- the weights of a program: at most 255, and with arguments, which are at most four, at least 1
   record Weights : Type 0 where
     most : (c : ℕ) (k : Constructor) → constructor s c ≡ some k → k .weight ≤ 255
     least : (c : ℕ) (k : Constructor) → constructor s c ≡ some k → length (k .arguments) ≤ 4 * k .weight
@@ -82,7 +82,7 @@ module _ (s : Program) where
       written-all-small (cons v vs) [] h = absurd h
       written-all-small (cons v vs) (t ∷ ts) h = rw (length-append (written v) (writtenAll vs)) (omega (arith, written-small v t (h .0), written-all-small vs ts (h .1)))
 
----- The sheet
+---- The program
 
 module _ {bytes : List ℕ} {s : Program} (P : Passed bytes s) (small : All (λ b. b < 256) bytes) where
   weights : Weights s

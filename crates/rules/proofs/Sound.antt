@@ -74,10 +74,10 @@ module _ (s : Program) (ty : ℕ → ℕ → Option (List ℕ)) (sh : ℕ → �
     over : Inv []
     running : {fr : Frame} {us : List Value} {frs : List Frame} → FrameOk fr us → Chain (fr .function) us frs → Inv (fr ∷ frs)
 
-  -- a state steps to a good one, or has a resultOf that is good
+  -- a state steps to a good one, or has a result that is good
   pub data Goes (st : State) : Type 0 where
     stepped : (next : State) → step s st ≡ some next → Inv next → Goes st
-    figured : (v : Value) → resultOf s st ≡ some v → step s st ≡ none → Has s v R → Lim (size s v) → Goes st
+    resulted : (v : Value) → resultOf s st ≡ some v → step s st ≡ none → Has s v R → Lim (size s v) → Goes st
 
   -- an instruction of the top frame is carried out, to a good state
   Done : Instruction → Frame → List Frame → Type 0
@@ -326,7 +326,7 @@ module _ (s : Program) (ty : ℕ → ℕ → Option (List ℕ)) (sh : ℕ → �
   return-ok {fr} {us} k (bottom G e er) ec et =
       let v = returns k et in
       let r = result-of (v .0) us (k .f) G (some-inj (sym (k .at-f) ∙ e)) (v .2) (v .3) in
-      figured (v .0) (rw (ec, v .1)) (rw ec) (rw er at (r .0)) (k .limited (size s (v .0)) (v .3))
+      resulted (v .0) (rw (ec, v .1)) (rw ec) (rw er at (r .0)) (k .limited (size s (v .0)) (v .3))
   return-ok {fr} {us} k (waits {fr = w} {frs = frs} G rest e ew cut kw again ch) ec et =
       let v = returns k et in
       let r = result-of (v .0) us (k .f) G (some-inj (sym (k .at-f) ∙ e)) (v .2) (v .3) in

@@ -1,5 +1,5 @@
 -- The tally promise, which is demand 3: what holds of every accepted program, every entry function and all arguments of the declared types.
--- This file only states it; `tally-promise` of proofs/Run.antt proves it.
+-- This file only states it; `tally-promise` of proofs/Promise.antt proves it.
 use mathlib.Core.Path.{_≡_}
 use mathlib.Core.List.{List, [], _∷_}
 use mathlib.Core.Option.{Option, none, some}

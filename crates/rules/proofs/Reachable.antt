@@ -1,4 +1,4 @@
--- The tally promise: every state that an accepted sheet reaches is safe.
+-- Every state that an accepted program reaches is safe: the states of the tally promise.
 use mathlib.Core.Path.{_≡_, refl, sym, _∙_}
 use mathlib.Core.List.{List, [], _∷_}
 use mathlib.Core.Option.{Option, none, some}
@@ -12,7 +12,7 @@ use Rattle.rules.specs.Machine.{_>>=_, Value, Frame, State, start, step,
 use Rattle.rules.specs.Promise.{typesAt, Lives, given-up, has-result, goes-on, Kept, Safe}
 use Rattle.rules.proofs.ListLaws.{none-some, some-inj, all-map, all2-length}
 use Rattle.rules.proofs.FormLaws.{under-bound}
-use Rattle.rules.proofs.Sound.{AcceptedFn, FrameOk, Chain, bottom, waits, Inv, over, running, Goes, stepped, figured, within, entered, goes}
+use Rattle.rules.proofs.Sound.{AcceptedFn, FrameOk, Chain, bottom, waits, Inv, over, running, Goes, stepped, resulted, within, entered, goes}
 use Rattle.rules.proofs.MachineLaws.{result-stops}
 use Rattle.rules.proofs.Accepted.{Passed, checked-parts, light, accepted, types-low}
 
@@ -56,7 +56,7 @@ module _ {bytes : List ℕ} {s : Program} (P : Passed bytes s) (n : ℕ) (f : Fu
     where
       one : Going (fr ∷ frs) → Invariant next
       one (stepped st′ e′ h′) = rw (some-inj (sym e′ ∙ e)) at h′
-      one (figured v e′ w o l) = absurd (none-some (sym w ∙ e))
+      one (resulted v e′ w o l) = absurd (none-some (sym w ∙ e))
 
   pub kept-after : (k : ℕ) (st last : State) → Invariant st → after s k st ≡ some last → Invariant last
   unfolding after
@@ -75,7 +75,7 @@ module _ {bytes : List ℕ} {s : Program} (P : Passed bytes s) (n : ℕ) (f : Fu
     where
       one : Going (fr ∷ frs) → Has s v (f .result) × (size s v ≤ limit)
       one (stepped next w h′) = absurd (none-some (sym (result-stops s (fr ∷ frs) e) ∙ w))
-      one (figured v′ e′ w o l) = let same : v′ ≡ v = some-inj (sym e′ ∙ e) in (rw same at o, rw same at l)
+      one (resulted v′ e′ w o l) = let same : v′ ≡ v = some-inj (sym e′ ∙ e) in (rw same at o, rw same at l)
 
   frame-kept : {fr : Frame} {vs : List Value} → FrameOk s ty sh (light P) acc (f .result) Within fr vs → Kept s limit fr
   frame-kept {fr} k = record { types = k .ts; worked-out = k .types-at; height = all2-length (k .typed); low = types-low P (fr .function) (k .f) (k .at-f) (fr .instruction) (k .ts) (rw (k .at-f) at (k .types-at)); typed = k .typed; small = all-map (λ v u. k .limited (size s v) u) (within s ty sh (light P) acc (f .result) Within k) }
@@ -90,7 +90,7 @@ module _ {bytes : List ℕ} {s : Program} (P : Passed bytes s) (n : ℕ) (f : Fu
     where
       one : Going (fr ∷ frs) → Lives s (fr ∷ frs)
       one (stepped next e h) = goes-on next e
-      one (figured v e w o l) = has-result v e
+      one (resulted v e w o l) = has-result v e
 
 -- every state after any number of steps is safe
 pub states-safe : {file : List ℕ} {s : Program} → Passed file s → (n : ℕ) (f : Function) → function s n ≡ some f → (us : List Value) → Typed s us (f .parameters)

@@ -21,11 +21,11 @@ use Rattle.rules.specs.Promise.{takes, builds, Room, NoRoom, frames, sta
 use Rattle.rules.specs.Facts.{NumberFact}
 use Rattle.rules.proofs.ListLaws.{none-some, some-inj}
 use Rattle.rules.proofs.TriedLaws.{Refuses, refuses-bind, refuses-required, refuses-require, refuses-some}
-use Rattle.rules.proofs.Sound.{stepped, figured}
+use Rattle.rules.proofs.Sound.{stepped, resulted}
 use Rattle.rules.proofs.Accepted.{Passed, checked-parts}
 use Rattle.rules.proofs.MachineLaws.{after-next, result-stops, builds-next}
 use Rattle.rules.proofs.RunLaws.{Stepping, step-within, continued-ended, continued-spent, continued-short, continued-on, started-refused, started-loaded, loaded-parts, run-checked}
-use Rattle.rules.proofs.Tally.{states-safe, limit, Invariant, Going, begins, going}
+use Rattle.rules.proofs.Reachable.{states-safe, limit, Invariant, Going, begins, going}
 
 -- an entry function with arguments of the declared types, and what is lent
 module _ {file : List ℕ} {s : Program} (P : Passed file s) (n : ℕ) (f : Function) (at-f : function s n ≡ some f) (us : List Value) (typed : Typed s us (f .parameters)) (m : Tables) (budget room cells₀ : ℕ) where
@@ -75,7 +75,7 @@ module _ {file : List ℕ} {s : Program} (P : Passed file s) (n : ℕ) (f : Func
   now (fr ∷ frs) h = one (going P n f at-f us typed fr frs h)
     where
       one : Going P n f at-f us typed (fr ∷ frs) → Now (fr ∷ frs)
-      one (figured v e w o l) = done (finished (written v)) (rw e) (delivers (fr ∷ frs) v e o l)
+      one (resulted v e w o l) = done (finished (written v)) (rw e) (delivers (fr ∷ frs) v e o l)
       one (stepped next e h′) = two (resultOf s (fr ∷ frs)) refl
         where
           two : (x : Option Value) → resultOf s (fr ∷ frs) ≡ x → Now (fr ∷ frs)
