@@ -21,3 +21,5 @@ pub mod RunLaws
 pub mod Promise
 pub mod ResultLaws
 pub mod ContainerLaws
+pub mod OutcomeLaws
+pub mod Judgements

@@ -128,30 +128,30 @@ module _ (s : Program) (n : ℕ) (f : Function) where
       (b .0, b .1, sym (found-inj (b .2)))
 
   enter-found : (i : ℕ) (sh : Shape) (args : ℕ) (y : Symbol) {M : List (Arrow Shape)} → enter s n f i sh args y ≡ found M
-      → (p : List Expression × List Expression) × (split args (sh .stack) ≡ some p) × (M ≡ (suc i, withStack sh (push (p .0) (made y (p .1)))) ∷ [])
+      → (p : List Expression × List Expression) × (split args (sh .stack) ≡ some p) × (M ≡ (suc i, withStack sh (push (p .0) (made y (p .1)))) ∷ []) × (length (formOf s (made y (p .1))) ≤ 16)
   unfolding enter
   enter-found i sh args y e =
       let a = after-some (split args (sh .stack)) _ _ e in
       let b = after-required (leb (length (formOf s (made y (a .0 .1)))) 16) _ _ (a .2) in
-      (a .0, a .1, sym (found-inj (b .1)))
+      (a .0, a .1, sym (found-inj (b .1)), leb-true _ _ (b .0))
 
   pub shape-build : (i c : ℕ) (sh : Shape) {M : List (Arrow Shape)} → shapeFrom s n f i (Build c) sh ≡ found M
       → (k : Constructor) × (constructor s c ≡ some k) × (p : List Expression × List Expression) × (split (length (k .arguments)) (sh .stack) ≡ some p)
-      × (M ≡ (suc i, withStack sh (push (p .0) (made (built c) (p .1)))) ∷ [])
+      × (M ≡ (suc i, withStack sh (push (p .0) (made (built c) (p .1)))) ∷ []) × (length (formOf s (made (built c) (p .1))) ≤ 16)
   unfolding shapeFrom
   shape-build i c sh e =
       let b = after-some (constructor s c) _ _ e in
       let r = enter-found i sh (length (b .0 .arguments)) (built c) (b .2) in
-      (b .0, b .1, r .0, r .1, r .2)
+      (b .0, b .1, r .0, r .1, r .2, r .3)
 
   pub shape-call : (i g : ℕ) (sh : Shape) {M : List (Arrow Shape)} → shapeFrom s n f i (Call g) sh ≡ found M
       → (k : Function) × (function s g ≡ some k) × (p : List Expression × List Expression) × (split (length (k .parameters)) (sh .stack) ≡ some p)
-      × (M ≡ (suc i, withStack sh (push (p .0) (made (called g) (p .1)))) ∷ [])
+      × (M ≡ (suc i, withStack sh (push (p .0) (made (called g) (p .1)))) ∷ []) × (length (formOf s (made (called g) (p .1))) ≤ 16)
   unfolding shapeFrom
   shape-call i g sh e =
       let b = after-some (function s g) _ _ e in
       let r = enter-found i sh (length (b .0 .parameters)) (called g) (b .2) in
-      (b .0, b .1, r .0, r .1, r .2)
+      (b .0, b .1, r .0, r .1, r .2, r .3)
 
   pub shape-branch : (i c b : ℕ) (sh : Shape) {M : List (Arrow Shape)} → shapeFrom s n f i (Branch c b) sh ≡ found M
       → (k : Constructor) × (constructor s c ≡ some k) × (p : List Expression × List Expression) × (split 1 (sh .stack) ≡ some p) × (branchOn s n f i sh (p .0) c (length (k .arguments)) b (p .1) ≡ found M)
@@ -203,7 +203,7 @@ among-none : {S : Type 0} (ts : List ℕ) → Among {S = S} [] ts
 among-none [] = s[]
 among-none (t ∷ ts) = skip (among-none ts)
 
-abbrev hits : ℕ → List ℕ → ℕ
+abbrev pub hits : ℕ → List ℕ → ℕ
 hits j [] = 0
 hits j (t ∷ ts) = (if eqb t j then 1 else 0) + hits j ts
 
@@ -266,6 +266,16 @@ module _ (n last : ℕ) where
   flow-one i ins [] e = absurd (refused-found e)
   flow-one i ins (x ∷ []) e = (le-refl 1, from-leaves i ins x e)
   flow-one i ins (x ∷ y ∷ xs) e = absurd (refused-found e)
+
+  -- it leaves to each of its targets just once for each time it names it
+  pub flow-counts : (i : ℕ) (ins : Instruction) (xs : List Bool) {L : List (Arrow Bool)} → flowRule n last i ins xs ≡ found L → (j : ℕ) → hits j (targets i ins) ≡ count j L
+  unfolding Leaves
+  flow-counts i ins xs e j = flow-one i ins xs e .1 .0 j
+
+  -- and its targets lie ahead
+  pub flow-ahead : (i : ℕ) (ins : Instruction) (xs : List Bool) {L : List (Arrow Bool)} → flowRule n last i ins xs ≡ found L → All (λ j. (i < j) × (j ≤ last)) (targets i ins)
+  unfolding Leaves
+  flow-ahead i ins xs e = flow-one i ins xs e .1 .1
 
   pub flow-single : (i : ℕ) (ins : Instruction) (xs : List Bool) (L : List (Arrow Bool)) → flowRule n last i ins xs ≡ found L → (p : Bool) × (xs ≡ p ∷ []) × (flowFrom n last i ins p ≡ found L)
   unfolding flowRule

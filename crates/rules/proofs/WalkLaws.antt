@@ -38,7 +38,7 @@ module _ {S : Type 0} where
       go true m = there m
       go false m = m
 
-  count-append : (i : ℕ) (A B : List (Arrow S)) → count i (A ++ B) ≡ count i A + count i B
+  pub count-append : (i : ℕ) (A B : List (Arrow S)) → count i (A ++ B) ≡ count i A + count i B
   unfolding arriving
   count-append i [] B = omega arith
   count-append i (a ∷ A) B = go (eqb (a .0) i) (count-append i A B)
@@ -139,7 +139,7 @@ module _ {S : Type 0} (P : ℕ → S → Type 0) where
   abbrev pub BringsAt : Arrow S → Type 0
   BringsAt a = P (a .0) (a .1)
 
-  arriving-at : (i : ℕ) {A : List (Arrow S)} → All BringsAt A → All (P i) (arriving i A)
+  pub arriving-at : (i : ℕ) {A : List (Arrow S)} → All BringsAt A → All (P i) (arriving i A)
   unfolding arriving
   arriving-at i l[] = l[]
   arriving-at i (_l∷_ {x} {xs} p ps) = one (eqb (x .0) i) refl (arriving-at i ps)

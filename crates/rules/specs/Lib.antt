@@ -23,5 +23,6 @@ pub mod Answers
 pub mod Roots
 pub mod Computed
 pub mod Cases
+pub mod Judgements
 pub mod Promise
 pub mod Facts
