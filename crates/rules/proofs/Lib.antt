@@ -23,3 +23,4 @@ pub mod ResultLaws
 pub mod ContainerLaws
 pub mod OutcomeLaws
 pub mod Judgements
+pub mod MemoryLaws

@@ -4,18 +4,18 @@ use mathlib.Core.List.{List, [], _∷_}
 use mathlib.Core.Option.{none, some}
 use mathlib.Core.Bool.{Bool, true, false}
 use mathlib.Core.Logic.{_⊎_, inl, inr}
-use Prim.Native.Nat.{ℕ, zero, suc, _+_, _≤_}
+use Prim.Native.Nat.{ℕ, zero, suc, _+_, _≤_, _<_}
 use lib.ListN.{length}
 use lib.Dec.{leb}
-use borrow.Author.Tests.{leb-true, leb-false}
+use borrow.Author.Tests.{leb-true, leb-false, le-leb, lt-leb}
 use Rattle.rules.specs.Base.{_>>=_ as _>>=ᵗ_}
-use Rattle.rules.specs.Base.{Refusal, refusal, Tried, found, refused, Check, require}
+use Rattle.rules.specs.Base.{Refusal, refusal, Tried, found, refused, Check, passed, require}
 use Rattle.rules.specs.Program.{Function, Program, function}
 use Rattle.rules.specs.Machine.{State, start, current, step}
 use Rattle.rules.specs.Values.{Typed}
 use Rattle.rules.specs.Check.{checked}
 use Rattle.rules.specs.Prefix.{argumentsRight, values}
-use Rattle.rules.specs.Run.{Lent, Tables, usable, Ending, refusedWith, Outcome, answer, heights, fits, cellsTaken, refusalAt, endOf, Point, stepWithin, continued, loaded, started, delivered, run}
+use Rattle.rules.specs.Run.{Lent, Tables, usable, Ending, finished, aborted, refusedWith, Outcome, answer, heights, fits, cellsTaken, refusalAt, endOf, Point, stepWithin, continued, loaded, started, deliveredIn, delivered, run}
 use Rattle.rules.specs.Promise.{takes, Room, NoRoom, frames, stack, heap}
 use Rattle.rules.proofs.ListLaws.{none-some}
 use Rattle.rules.proofs.TriedLaws.{bind-found, found-inj, refused-found, after-some, after-required, required}
@@ -104,6 +104,43 @@ loaded-parts s m entry args e =
     let c = bind-found (fits m (start entry (values s args)) (length args) entry 1) _ (a .2) in
     let same = found-inj (c .2) in
     (f, k .1, b .0, b .1, same, rw (← same) (fits-found m (start entry (values s args)) (length args) entry 1 (c .1)))
+
+module _ (s : Program) (m : Tables) (entry : ℕ) (bytes : List ℕ) where
+  pub load-no-entry : function s entry ≡ none → loaded s m entry bytes ≡ refused (refusal 11 entry 0)
+  unfolding loaded
+  load-no-entry e = rw e
+
+  module _ (f : Function) (e : function s entry ≡ some f) where
+    pub load-bad-arguments : {r : Refusal} → argumentsRight s f bytes ≡ refused r → loaded s m entry bytes ≡ refused r
+    unfolding loaded
+    load-bad-arguments a = rw (e, a)
+
+    pub load-no-room : {r : Refusal} → argumentsRight s f bytes ≡ passed → fits m (start entry (values s bytes)) (length bytes) entry 1 ≡ refused r → loaded s m entry bytes ≡ refused r
+    unfolding loaded
+    load-no-room a w = rw (e, a, w)
+
+    pub load-begins : argumentsRight s f bytes ≡ passed → fits m (start entry (values s bytes)) (length bytes) entry 1 ≡ passed → loaded s m entry bytes ≡ found (start entry (values s bytes))
+    unfolding loaded
+    load-begins a w = rw (e, a, w)
+
+---- The output
+
+module _ (room steps : ℕ) where
+  pub deliver-result : (bytes : List ℕ) → length bytes ≤ room → delivered room (answer (finished bytes) steps) ≡ answer (finished bytes) steps
+  unfolding delivered deliveredIn
+  deliver-result bytes h = rw (le-leb (length bytes) room h)
+
+  pub deliver-short : (bytes : List ℕ) → room < length bytes → delivered room (answer (finished bytes) steps) ≡ answer (refusedWith (refusal 13 (length bytes) 0)) steps
+  unfolding delivered deliveredIn
+  deliver-short bytes h = rw (lt-leb (length bytes) room h)
+
+  pub deliver-aborted : delivered room (answer aborted steps) ≡ answer aborted steps
+  unfolding delivered deliveredIn
+  deliver-aborted = refl
+
+  pub deliver-refused : (r : Refusal) → delivered room (answer (refusedWith r) steps) ≡ answer (refusedWith r) steps
+  unfolding delivered deliveredIn
+  deliver-refused r = refl
 
 ---- The whole run
 
