@@ -24,3 +24,4 @@ pub mod ContainerLaws
 pub mod OutcomeLaws
 pub mod Judgements
 pub mod MemoryLaws
+pub mod CheckLaws
