@@ -1,0 +1,4 @@
+pub mod OpenLaws
+mod BlockLaws
+mod WriteLaws
+pub mod PackLaws

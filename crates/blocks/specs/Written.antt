@@ -1,0 +1,16 @@
+-- What the functions that write leave in a slice.
+use mathlib.Core.Path.{_≡_}
+use mathlib.Core.List.{List, _++_}
+use Prim.Native.Nat.{ℕ, _+_, _*_, _≤_}
+use lib.ListN.{length, take, drop}
+use Rattle.rules.specs.Container.{weighed}
+
+-- a list with these bytes from a place on
+abbrev pub overwritten : List ℕ → ℕ → List ℕ → List ℕ
+overwritten out at bytes = take at out ++ bytes ++ drop (at + length bytes) out
+
+-- bytes put into a block from a place on, and added to a sum of byte × (place + 1)
+pub record Put (out : List ℕ) (at : ℕ) (bytes : List ℕ) (sum : ℕ) (out′ : List ℕ) (sum′ : ℕ) : Type 0 where
+  pub written : out′ ≡ overwritten out at bytes
+  pub summed : sum′ ≡ sum + weighed (at + 1) bytes
+  pub small : sum′ ≤ 130560 * (at + length bytes)
