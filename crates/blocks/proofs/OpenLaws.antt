@@ -1,14 +1,14 @@
 -- What the answer of `blocks::verify` says of a file: it is opened, or why it is refused.
-use mathlib.Core.Path.{_≡_, refl, sym, ap, _∙_}
+use mathlib.Core.Path.{_≡_, refl, sym}
 use mathlib.Core.List.{List}
-use Prim.Native.Nat.{ℕ, _+_, _*_, _-_, _/_, _≤_}
+use Prim.Native.Nat.{ℕ, _+_, _*_, _-_, _/_}
 use native.Mathlib.Omega.{arith}
 use lib.ListN.{length}
 use Rattle.rules.specs.declared.answers.Reason.{Reason}
 use Rattle.rules.specs.declared.answers.Length.{Length}
 use Rattle.rules.specs.declared.answers.Length.the-variants as long
 use Rattle.rules.specs.Answers.{refusalOf, toldLength, lengthOf}
-use Rattle.rules.specs.Base.{Refusal, Tried, found, refused, _>>=_, Check, passed, wordAt}
+use Rattle.rules.specs.Base.{Refusal, Tried, found, refused, Check, passed, wordAt}
 use Rattle.rules.specs.Container.{verify, payload, verified}
 use Rattle.rules.specs.Opened.{Opened}
 use Rattle.rules.proofs.ContainerLaws.{verified-length}

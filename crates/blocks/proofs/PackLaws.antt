@@ -4,19 +4,16 @@ use mathlib.Core.List.{List, [], _∷_, _++_, append-nil, append-assoc}
 use mathlib.Core.Bool.{false}
 use Prim.Native.Nat.{ℕ, zero, suc, _+_, _*_, _-_, _/_, _≤_, _<_, min}
 use native.Mathlib.Omega.{arith}
-use native.Mathlib.Numerals.{add-one}
 use native.Mathlib.Nat.{add-zero, add-suc, suc-add, zero-add}
 use lib.ListN.{length, take, drop, replicate, length-append, length-take, length-drop, length-replicate}
-use lib.Seq.{take-all, take-take, drop-drop, drop-nil}
+use lib.Seq.{take-all, drop-drop}
 use native.Mathlib.Decide.{decLe}
 use borrow.Rule.Slice.PartMut.{putMid}
 use borrow.Author.Tests.{le-leb, lt-leb}
-use Rattle.rules.specs.Base.{Refusal, refusal, found, refused, _>>=_, require, within}
-use Rattle.rules.specs.Container.{weighed, blockCheck, bytes2, bytes4, blockBody, block, blocksOf, blockCount, packed, pack, payload, verified, unpack}
+use Rattle.rules.specs.Base.{Refusal, refusal, found, refused, within}
+use Rattle.rules.specs.Container.{weighed, blockCheck, bytes2, bytes4, blockBody, block, blocksOf, blockCount, packed, pack, verified, unpack}
 use Rattle.rules.specs.Memory.{frontWritten}
-use Rattle.rules.specs.Opened.{Opened}
 use Rattle.blocks.specs.Written.{overwritten, Put}
-use Rattle.blocks.proofs.OpenLaws.{verified-passed}
 use Rattle.blocks.proofs.WriteLaws.{front-grown, front-whole}
 
 ---- The answers
@@ -39,14 +36,14 @@ pub unpack-refused : (file : List ℕ) (room : ℕ) {r : Refusal} → verified f
 unfolding unpack
 unpack-refused file room e = rw e
 
-module _ {file : List ℕ} {n : ℕ} (o : Opened file n) (room : ℕ) where
-  pub unpack-short : room < n → unpack file room ≡ refused (refusal 13 n 0)
+module _ (file : List ℕ) (room : ℕ) {bytes : List ℕ} (e : verified file ≡ found bytes) where
+  pub unpack-short : room < length bytes → unpack file room ≡ refused (refusal 13 (length bytes) 0)
   unfolding unpack
-  unpack-short h = rw (verified-passed file (o .verified), ← o .long, lt-leb n room h)
+  unpack-short h = rw (e, lt-leb _ _ h)
 
-  pub unpack-fits : n ≤ room → unpack file room ≡ found (payload file)
+  pub unpack-fits : length bytes ≤ room → unpack file room ≡ found bytes
   unfolding unpack
-  unpack-fits h = rw (verified-passed file (o .verified), ← o .long, le-leb n room h)
+  unpack-fits h = rw (e, le-leb _ _ h)
 
 ---- The sum of a block
 
@@ -71,7 +68,7 @@ module _ (k : ℕ) (part : List ℕ) (h : length part ≤ 504) where
   unfolding block
   block-length = simp (length-append, body-length) (omega arith)
 
-  check-whole : blockCheck (blockBody k part) ≡ weighed 1 (blockBody k part)
+  pub check-whole : blockCheck (blockBody k part) ≡ weighed 1 (blockBody k part)
   unfolding blockCheck
   check-whole = ap (weighed 1) (take-all 508 (blockBody k part) (omega (arith, body-length)))
 

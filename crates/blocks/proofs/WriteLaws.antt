@@ -1,12 +1,12 @@
 -- A slice that is written byte by byte, and a sum of byte × place that grows with it.
-use mathlib.Core.Path.{_≡_, refl, sym, ap, _∙_}
-use mathlib.Core.List.{List, [], _∷_, _++_, append-nil}
-use Prim.Native.Nat.{ℕ, zero, suc, _+_, _*_, _≤_, _<_}
+use mathlib.Core.Path.{_≡_, refl, _∙_}
+use mathlib.Core.List.{List, _++_, append-nil}
+use Prim.Native.Nat.{ℕ, _+_, _*_, _≤_, _<_}
 use native.Mathlib.Omega.{arith}
 use native.Mathlib.Numerals.{add-one}
-use native.Mathlib.Nat.{add-zero, add-suc, le-trans, mul-le-mul}
+use native.Mathlib.Nat.{le-trans, mul-le-mul}
 use lib.Dec.{lit≤}
-use lib.ListN.{length, take, drop, getD, set, replicate, length-append, length-set, drop-of-length-le}
+use lib.ListN.{length, take, drop, getD, set, length-append, length-set, drop-of-length-le}
 use lib.Seq.{paste, paste-zero, paste-suc, take-length, take-append-seam, drop-append-add, drop-drop}
 use Rattle.rules.specs.Container.{weighed}
 use Rattle.rules.specs.Memory.{frontWritten}

@@ -1,26 +1,28 @@
 -- `blocks::pack` meets its contract: the tests on the way to each answer are those of the definition. Assumes nothing.
-use mathlib.Core.Path.{_≡_, refl}
 use mathlib.Core.Bool.{and-false}
 use native.Mathlib.Omega.{arith}
 use lib.ListN.{length}
-use borrow.Author.Tests.{le-leb, lt-leb}
+use borrow.Author.Tests.{lt-leb}
 use Rattle.rules.specs.Container.{blockCount, packed}
 use Rattle.rules.specs.Memory.{copiedInto}
 use Rattle.blocks.proofs.PackLaws.{pack-bad, pack-short, pack-fits, packed-length}
 use borrow.Author.Needs.{needs}
 use Rattle.blocks.proofs.pack.Statement.{statement}
 use Rattle.blocks.proofs.pack.Tie as tie
-use Rattle.blocks.proofs.pack.Reads as reads
-use Rattle.blocks.proofs.pack.Lts as lts
-use Rattle.blocks.proofs.packing.write_blocks.Reads as write-blocks-reads
 
 returns : tie.Need-returns
 unfolding copiedInto
-returns c = let e = pack-bad (c .before .before .before .args .payload .now) (length (c .before .before .before .args .out .now)) (rw (c .if1 .taken)) in (rw e, rw e)
+returns c =
+    let a = c .before .before .before .args in
+    let e = pack-bad (a .payload .now) (length (a .out .now)) (rw (c .if1 .taken)) in
+    (rw e, rw e)
 
 returns-2 : tie.Need-returns-2
 unfolding copiedInto
-returns-2 c = let e = pack-bad (c .before .before .before .before .args .payload .now) (length (c .before .before .before .before .args .out .now)) (simp (lt-leb _ _ (c .if2 .taken), and-false)) in (rw e, rw e)
+returns-2 c =
+    let a = c .before .before .before .before .args in
+    let e = pack-bad (a .payload .now) (length (a .out .now)) (simp (lt-leb _ _ (c .if2 .taken), and-false)) in
+    (rw e, rw e)
 
 add-blocks : tie.Need-add-blocks
 add-blocks c = search needs
@@ -30,7 +32,10 @@ mul-needed c = search needs
 
 returns-3 : tie.Need-returns-3
 unfolding copiedInto blockCount
-returns-3 c = let e = pack-short (c .before .before .before .before .before .args .payload .now) (length (c .before .before .before .before .before .args .out .now)) (omega arith) (c .before .if2 .left) (c .if3 .taken) in (rw e, rw e)
+returns-3 c =
+    let a = c .before .before .before .before .before .args in
+    let e = pack-short (a .payload .now) (length (a .out .now)) (omega arith) (c .before .if2 .left) (c .if3 .taken) in
+    (rw e, rw e)
 
 write-blocks-requires : tie.Need-write-blocks-requires
 write-blocks-requires c κs = search needs
@@ -40,7 +45,10 @@ same-length c = search needs
 
 returns-4 : tie.Need-returns-4
 unfolding copiedInto blockCount packed
-returns-4 c = let e = pack-fits (c .before .before .before .before .before .before .before .before .before .args .payload .now) (length (c .before .before .before .before .before .before .before .before .before .args .out .now)) (omega arith) (c .before .before .before .before .before .if2 .left) (c .before .before .before .before .if3 .left) in (rw (e, packed-length (c .before .before .before .before .before .before .before .before .before .args .payload .now)), rw e (c .before .before .write-blocks .ensures))
+returns-4 c =
+    let a = c .before .before .before .before .before .before .before .before .before .args in
+    let e = pack-fits (a .payload .now) (length (a .out .now)) (omega arith) (c .before .before .before .before .before .if2 .left) (c .before .before .before .before .if3 .left) in
+    (rw (e, packed-length (a .payload .now)), rw e (c .before .before .write-blocks .ensures))
 
 pub pack-spec : {M : Type 1} → statement M
 pack-spec =

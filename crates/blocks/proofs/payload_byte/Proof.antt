@@ -14,7 +14,7 @@ add-result-2 : tie.Need-add-result-2
 add-result-2 c = omega (arith, opened-place (c .pre .0) (c .args .k) (c .pre .1))
 
 shared-slice-read-result : tie.Need-shared-slice-read-result
-shared-slice-read-result c = opened-place (c .before .pre .0) (c .before .args .k) (c .before .pre .1)
+shared-slice-read-result c = omega (arith, opened-place (c .before .pre .0) (c .before .args .k) (c .before .pre .1))
 
 returns : tie.Need-returns
 returns c = opened-byte (c .before .pre .0) (c .before .args .k) (c .before .pre .1)

@@ -6,10 +6,6 @@ use Rattle.blocks.proofs.PackLaws.{unpack-refused}
 use borrow.Author.Needs.{needs}
 use Rattle.blocks.proofs.unpack.Statement.{statement}
 use Rattle.blocks.proofs.unpack.Tie as tie
-use Rattle.blocks.proofs.unpack.Reads as reads
-use Rattle.blocks.proofs.unpack.Lts as lts
-use Rattle.blocks.proofs.unpacking.unpack_opened.Reads as unpack-opened-reads
-use Rattle.blocks.proofs.verify.Reads as verify-reads
 
 verify-requires : tie.Need-verify-requires
 verify-requires c κs = search needs
@@ -31,7 +27,10 @@ returns c = search needs
 
 returns-2 : tie.Need-returns-2
 unfolding copiedInto
-returns-2 c = let e = unpack-refused _ (length (c .before .before .before .before .before .before .args .out .now)) (verified-refused _ (c .before .before .before .verify .ensures) (c .before .verified2 .given .1)) in (rw e, rw e)
+returns-2 c =
+    let a = c .before .before .before .before .before .before .args in
+    let e = unpack-refused _ (length (a .out .now)) (verified-refused _ (c .before .before .before .verify .ensures) (c .before .verified2 .given .1)) in
+    (rw e, rw e)
 
 pub unpack-spec : {M : Type 1} → statement M
 unpack-spec =

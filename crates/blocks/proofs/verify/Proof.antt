@@ -1,14 +1,10 @@
 -- `blocks::verify` meets its contract: verified blocks are opened with their payload's length. Assumes nothing.
-use mathlib.Core.Path.{_≡_, sym, ap, _∙_}
+use mathlib.Core.Path.{sym, ap, _∙_}
 use Rattle.rules.specs.Answers.{toldCheck, lengthOf}
 use Rattle.blocks.proofs.OpenLaws.{opened-told, verified-stopped}
 use borrow.Author.Needs.{needs}
 use Rattle.blocks.proofs.verify.Statement.{statement}
 use Rattle.blocks.proofs.verify.Tie as tie
-use Rattle.blocks.proofs.verify.Reads as reads
-use Rattle.blocks.proofs.verify.Lts as lts
-use Rattle.blocks.proofs.verifying.payload_length.Reads as payload-length-reads
-use Rattle.blocks.proofs.verifying.verify_blocks.Reads as verify-blocks-reads
 
 verify-blocks-requires : tie.Need-verify-blocks-requires
 verify-blocks-requires c κs = search needs

@@ -1,14 +1,11 @@
 -- `blocks::packing::clear` meets its contract: zeros are pasted one by one. Assumes nothing.
-use Prim.Native.Nat.{_≤_, _-_, _+_}
-use mathlib.Core.Path.{_≡_, sym, _∙_}
+use Prim.Native.Nat.{_≤_, _-_}
+use mathlib.Core.Path.{sym}
 use native.Mathlib.Omega.{arith}
-use lib.ListN.{length, replicate, length-replicate, getD-replicate}
+use lib.ListN.{replicate, length-replicate, getD-replicate}
 use Rattle.blocks.proofs.WriteLaws.{Pasted, pasted-start, pasted-next, pasted-end}
-use borrow.Author.Needs.{needs}
 use Rattle.blocks.proofs.packing.clear.Statement.{statement}
 use Rattle.blocks.proofs.packing.clear.Tie as tie
-use Rattle.blocks.proofs.packing.clear.Reads as reads
-use Rattle.blocks.proofs.packing.clear.Lts as lts
 
 abbrev Inv-loop : tie.InvT-loop
 Inv-loop out₀ from to i₀ out i = (from ≤ i) × Pasted out₀ from (replicate (to - from) 0) (i - from) out
@@ -29,7 +26,10 @@ loop-less : tie.Need-loop-less Inv-loop μ-loop
 loop-less c = omega arith
 
 loop-again : tie.Need-loop-again Inv-loop μ-loop
-loop-again c = (omega arith, pasted-next (c .before .loop .inv .1) (rw length-replicate (omega arith)) (omega arith) (omega arith) (sym (getD-replicate (c .before .before .args .to - c .before .before .args .from) (c .before .loop .i - c .before .before .args .from) 0 0 (omega arith))))
+loop-again c =
+    let a = c .before .before .args in
+    let l = c .before .loop in
+    (omega arith, pasted-next (l .inv .1) (rw length-replicate (omega arith)) (omega arith) (omega arith) (sym (getD-replicate (a .to - a .from) (l .i - a .from) 0 0 (omega arith))))
 
 same-length : tie.Need-same-length Inv-loop μ-loop
 same-length c = c .before .loop .inv .1 .same

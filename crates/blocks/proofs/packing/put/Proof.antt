@@ -6,11 +6,8 @@ use lib.ListN.{length, take, getD}
 use lib.Seq.{take-length}
 use Rattle.rules.specs.Container.{weighed}
 use Rattle.blocks.proofs.WriteLaws.{Pasted, pasted-start, pasted-next, pasted-end, term-bound, sum-start, sum-next}
-use borrow.Author.Needs.{needs}
 use Rattle.blocks.proofs.packing.put.Statement.{statement}
 use Rattle.blocks.proofs.packing.put.Tie as tie
-use Rattle.blocks.proofs.packing.put.Reads as reads
-use Rattle.blocks.proofs.packing.put.Lts as lts
 
 abbrev Inv-loop : tie.InvT-loop
 Inv-loop out₀ at bytes sum total₀ i₀ out total i = Pasted out₀ at bytes i out × (total ≤ 130560 * (at + i)) × (total ≡ sum + weighed (at + 1) (take i bytes))
@@ -55,13 +52,18 @@ loop-less : tie.Need-loop-less Inv-loop μ-loop
 loop-less c = omega arith
 
 loop-again : tie.Need-loop-again Inv-loop μ-loop
-loop-again c = (pasted-next (c .before .before .loop .inv .0) (c .before .loop-test .taken) refl refl refl, omega (arith, term c), sum-next _ _ _ _ (c .before .loop-test .taken) (c .before .before .loop .inv .2))
+loop-again c =
+    let l = c .before .before .loop in
+    (pasted-next (l .inv .0) (c .before .loop-test .taken) refl refl refl, omega (arith, term c), sum-next _ _ _ _ (c .before .loop-test .taken) (l .inv .2))
 
 same-length : tie.Need-same-length Inv-loop μ-loop
 same-length c = c .before .loop .inv .0 .same
 
 returns : tie.Need-returns Inv-loop μ-loop
-returns c = let l : length (c .before .before .args .bytes .now) ≡ c .before .loop .i = omega arith in record { written = pasted-end (c .before .loop .inv .0) (c .loop-test .left); small = rw l (c .before .loop .inv .1); summed = rw (← l, take-length) at (c .before .loop .inv .2) }
+returns c =
+    let l = c .before .loop in
+    let e : length (c .before .before .args .bytes .now) ≡ l .i = omega arith in
+    record { written = pasted-end (l .inv .0) (c .loop-test .left); summed = rw (← e, take-length) at (l .inv .2); small = rw e (l .inv .1) }
 
 pub put-spec : {M : Type 1} → statement M
 put-spec =

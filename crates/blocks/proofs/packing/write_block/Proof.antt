@@ -3,11 +3,6 @@ use Rattle.blocks.proofs.PackLaws.{block-written}
 use borrow.Author.Needs.{needs}
 use Rattle.blocks.proofs.packing.write_block.Statement.{statement}
 use Rattle.blocks.proofs.packing.write_block.Tie as tie
-use Rattle.blocks.proofs.packing.write_block.Reads as reads
-use Rattle.blocks.proofs.packing.write_block.Lts as lts
-use Rattle.blocks.proofs.packing.clear.Reads as clear-reads
-use Rattle.blocks.proofs.packing.put.Reads as put-reads
-use Rattle.blocks.proofs.packing.two_words.Reads as two-words-reads
 
 two-words-requires : tie.Need-two-words-requires
 two-words-requires c κs = search needs
@@ -43,7 +38,15 @@ same-length : tie.Need-same-length
 same-length c = search needs
 
 returns : tie.Need-returns
-returns c = block-written _ _ (c .before .before .before .before .before .before .before .before .before .before .before .before .before .before .before .before .before .before .before .before .before .before .pre .0) (c .before .before .before .before .before .before .before .before .before .before .before .before .before .before .before .before .before .before .before .before .before .before .pre .1) (rw (c .before .before .before .before .before .before .before .before .before .before .before .before .before .before .before .before .before .before .before .two-words .ensures) at (c .before .before .before .before .before .before .before .before .before .before .before .before .before .before .before .before .put .ensures)) (c .before .before .before .before .before .before .before .before .before .before .before .before .put2 .ensures) (c .before .before .before .before .before .before .before .before .clear .ensures) (rw (c .before .before .before .before .before .two-words2 .ensures) at (c .before .before .put3 .ensures))
+returns c =
+    let s = c .before .before .before .before .before .before .before .before .before .before .before .before .before .before .before .before .before .before .before .before .before .before in
+    let head = c .before .before .before .before .before .before .before .before .before .before .before .before .before .before .before .before .before .before .before .two-words in
+    let first = c .before .before .before .before .before .before .before .before .before .before .before .before .before .before .before .before .put in
+    let second = c .before .before .before .before .before .before .before .before .before .before .before .before .put2 in
+    let zeros = c .before .before .before .before .before .before .before .before .clear in
+    let tail = c .before .before .before .before .before .two-words2 in
+    let third = c .before .before .put3 in
+    block-written _ _ (s .pre .0) (s .pre .1) (rw (head .ensures) at (first .ensures)) (second .ensures) (zeros .ensures) (rw (tail .ensures) at (third .ensures))
 
 pub write-block-spec : {M : Type 1} → statement M
 write-block-spec =

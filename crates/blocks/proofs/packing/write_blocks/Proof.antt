@@ -1,18 +1,13 @@
 -- `blocks::packing::write_blocks` meets its contract: the blocks so far stand at the output's front. Assumes nothing.
 use Prim.Native.Nat.{_≤_, _-_, _+_, _*_}
-use mathlib.Core.Path.{_≡_, refl, sym, _∙_}
+use mathlib.Core.Path.{_≡_, refl, _∙_}
 use native.Mathlib.Omega.{arith}
 use lib.ListN.{length, length-take, length-drop}
 use Rattle.rules.specs.Container.{blocksOf}
 use Rattle.rules.specs.Memory.{frontWritten}
 use Rattle.blocks.proofs.PackLaws.{blocks-next}
-use borrow.Author.Needs.{needs}
 use Rattle.blocks.proofs.packing.write_blocks.Statement.{statement}
 use Rattle.blocks.proofs.packing.write_blocks.Tie as tie
-use Rattle.blocks.proofs.packing.write_blocks.Reads as reads
-use Rattle.blocks.proofs.packing.write_blocks.Lts as lts
-use Rattle.blocks.proofs.packing.part_length.Reads as part-length-reads
-use Rattle.blocks.proofs.packing.write_block.Reads as write-block-reads
 
 abbrev Inv-loop : tie.InvT-loop
 Inv-loop payload n out₀ k₀ out k = (k ≤ n) × (length out ≡ length out₀) × (out ≡ frontWritten (blocksOf k 0 payload) out₀)
@@ -70,13 +65,23 @@ loop-less : tie.Need-loop-less Inv-loop μ-loop
 loop-less c = omega arith
 
 loop-again : tie.Need-loop-again Inv-loop μ-loop
-loop-again c = let k = c .before .before .before .before .before .before .before .loop .k in (omega arith, c .before .out .given .1 ∙ c .before .before .before .before .before .before .before .loop .inv .1, blocks-next k (512 * k + 512 - 512 * k) (504 * k + c .before .before .before .before .before .part-length .result - 504 * k) (c .before .before .before .before .before .before .before .before .before .before .args .payload .now) (c .before .before .before .before .before .before .before .loop .out) (c .before .before .before .before .before .before .before .before .before .before .args .out .now) (c .before .before .before .before .before .before .before .loop .inv .2) (omega arith) (omega (arith, c .before .before .before .before .before .part-length .ensures)) (c .before .before .write-block .ensures))
+loop-again c =
+    let a = c .before .before .before .before .before .before .before .before .before .before .args in
+    let r = c .before .before .before .before .before .part-length in
+    let l = c .before .before .before .before .before .before .before .loop in
+    let k = l .k in (
+      omega arith,
+      c .before .out .given .1 ∙ l .inv .1,
+      blocks-next k (512 * k + 512 - 512 * k) (504 * k + r .result - 504 * k) (a .payload .now) (l .out) (a .out .now) (l .inv .2) (omega arith) (omega (arith, r .ensures)) (c .before .before .write-block .ensures),
+    )
 
 same-length : tie.Need-same-length Inv-loop μ-loop
 same-length c = c .before .loop .inv .1
 
 returns : tie.Need-returns Inv-loop μ-loop
-returns c = let e : c .before .loop .k ≡ c .before .before .before .before .args .n = omega arith in rw e at (c .before .loop .inv .2)
+returns c =
+    let e : c .before .loop .k ≡ c .before .before .before .before .args .n = omega arith in
+    rw e at (c .before .loop .inv .2)
 
 pub write-blocks-spec : {M : Type 1} → statement M
 write-blocks-spec =

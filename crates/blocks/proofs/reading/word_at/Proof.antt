@@ -4,8 +4,6 @@ use native.Mathlib.Omega.{arith}
 use borrow.Author.Needs.{needs}
 use Rattle.blocks.proofs.reading.word_at.Statement.{statement}
 use Rattle.blocks.proofs.reading.word_at.Tie as tie
-use Rattle.blocks.proofs.reading.word_at.Reads as reads
-use Rattle.blocks.proofs.reading.word_at.Lts as lts
 
 shared-slice-read-result : tie.Need-shared-slice-read-result
 shared-slice-read-result c = search needs

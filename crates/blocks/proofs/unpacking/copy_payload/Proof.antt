@@ -1,16 +1,12 @@
 -- `blocks::unpacking::copy_payload` meets its contract: the payload's bytes are pasted one by one. Assumes nothing.
 use Prim.Native.Nat.{_-_}
-use mathlib.Core.Path.{_≡_, refl}
+use mathlib.Core.Path.{refl}
 use native.Mathlib.Nat.{zero-add}
 use native.Mathlib.Omega.{arith}
 use Rattle.rules.specs.Container.{payload}
 use Rattle.blocks.proofs.WriteLaws.{Pasted, pasted-start, pasted-next, pasted-end}
-use borrow.Author.Needs.{needs}
 use Rattle.blocks.proofs.unpacking.copy_payload.Statement.{statement}
 use Rattle.blocks.proofs.unpacking.copy_payload.Tie as tie
-use Rattle.blocks.proofs.unpacking.copy_payload.Reads as reads
-use Rattle.blocks.proofs.unpacking.copy_payload.Lts as lts
-use Rattle.blocks.proofs.payload_byte.Reads as payload-byte-reads
 
 abbrev Inv-loop : tie.InvT-loop
 Inv-loop program n out₀ k₀ out k = Pasted out₀ 0 (payload program) k out
@@ -22,7 +18,7 @@ loop-holds : tie.Need-loop-holds Inv-loop μ-loop
 loop-holds c = pasted-start refl (omega (arith, c .before .before .pre .0 .long))
 
 payload-byte-requires : tie.Need-payload-byte-requires Inv-loop μ-loop
-payload-byte-requires c κs = (c .before .before .before .before .pre .0, c .loop-test .taken)
+payload-byte-requires c κs = (c .before .before .before .before .pre .0, omega arith)
 
 slice-write-out : tie.Need-slice-write-out Inv-loop μ-loop
 slice-write-out c = omega (arith, c .before .before .loop .inv .same, c .before .before .before .before .before .pre .0 .long)

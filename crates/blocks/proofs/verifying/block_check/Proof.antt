@@ -1,17 +1,16 @@
 -- `blocks::verifying::block_check` meets its contract: the loop's sum is that of the bytes passed. Assumes nothing.
 use mathlib.Core.Path.{_≡_, refl, ap, sym, _∙_}
-use Prim.Native.Nat.{_≤_, _*_, _-_, _+_, suc, ℕ}
+use Prim.Native.Nat.{_≤_, _*_, _-_, _+_, ℕ}
 use native.Mathlib.Omega.{arith}
-use lib.ListN.{length, take, getD}
+use lib.ListN.{take, getD}
 use Rattle.rules.specs.Container.{weighed, blockCheck}
-use Rattle.rules.proofs.ContainerLaws.{check-next, term-small}
+use Rattle.rules.proofs.ContainerLaws.{check-next}
+use Rattle.blocks.proofs.WriteLaws.{term-bound}
 use Rattle.blocks.proofs.verifying.block_check.Statement.{statement}
 use Rattle.blocks.proofs.verifying.block_check.Tie as tie
-use Rattle.blocks.proofs.verifying.block_check.Reads as reads
-use Rattle.blocks.proofs.verifying.block_check.Lts as lts
 
 abbrev Inv-loop : tie.InvT-loop
-Inv-loop b sum₀ i₀ sum i = (i ≤ 508) × (sum ≤ 129540 * i) × (sum ≡ weighed 1 (take i b))
+Inv-loop b sum₀ i₀ sum i = (i ≤ 508) × (sum ≤ 130560 * i) × (sum ≡ weighed 1 (take i b))
 
 abbrev μ-loop : tie.MeasureT-loop
 μ-loop b sum₀ i₀ sum i = 508 - i
@@ -32,8 +31,8 @@ cast-sum-2 c = omega arith
 add-sum : tie.Need-add-sum Inv-loop μ-loop
 add-sum c = omega arith
 
-small : (c : lts.After-shared-slice-known reads.Pre reads.Post Inv-loop μ-loop) → getD (c .before .before .before .args .b .now) (c .before .before .loop .i) 0 * (c .before .before .loop .i + 1) ≤ 129540
-small c = term-small _ _ (omega (arith, c .shared-slice-known .given (c .before .before .loop .i))) (omega arith)
+small : (c : tie.After-shared-slice-known Inv-loop μ-loop) → getD (c .before .before .before .args .b .now) (c .before .before .loop .i) 0 * (c .before .before .loop .i + 1) ≤ 130560
+small c = term-bound _ _ (omega (arith, c .shared-slice-known .given (c .before .before .loop .i))) (omega arith)
 
 mul-sum : tie.Need-mul-sum Inv-loop μ-loop
 mul-sum c = let t = small c in omega arith

@@ -1,17 +1,15 @@
 -- `blocks::verifying::block_right` meets its contract: each answer from the tests on its way. Assumes nothing.
 use mathlib.Core.Path.{_≡_, refl, sym, _∙_}
+use mathlib.Core.Bool.{true}
+use lib.Dec.{eqb}
 use native.Mathlib.Omega.{arith}
 use borrow.Author.Tests.{eq-eqb, ne-eqb, not-true, not-false}
+use Rattle.rules.specs.Base.{wordAt}
 use Rattle.rules.proofs.ContainerLaws.{used-small}
 use Rattle.blocks.proofs.BlockLaws.{fields-tested}
 use borrow.Author.Needs.{needs}
 use Rattle.blocks.proofs.verifying.block_right.Statement.{statement}
 use Rattle.blocks.proofs.verifying.block_right.Tie as tie
-use Rattle.blocks.proofs.verifying.block_right.Reads as reads
-use Rattle.blocks.proofs.verifying.block_right.Lts as lts
-use Rattle.blocks.proofs.reading.word_at.Reads as word-at-reads
-use Rattle.blocks.proofs.verifying.used_right.Reads as used-right-reads
-use Rattle.blocks.proofs.verifying.zero_between.Reads as zero-between-reads
 
 word-at-requires : tie.Need-word-at-requires
 word-at-requires c κs = search needs
@@ -21,6 +19,10 @@ cast-number c = search needs
 
 returns : tie.Need-returns
 returns c = sym (fields-tested _ _ _ _ refl (ne-eqb _ _ (λ e. c .if1 .taken (c .before .word-at .ensures ∙ e))) refl refl)
+
+-- past the first test the number is right
+numbered : (c : tie.Else1) → eqb (wordAt (c .before .before .before .args .b .now) 0) (c .before .before .before .args .k) ≡ true
+numbered c = eq-eqb _ _ (sym (c .before .word-at .ensures) ∙ c .if1 .left)
 
 word-at-requires-2 : tie.Need-word-at-requires-2
 word-at-requires-2 c κs = search needs
@@ -32,7 +34,7 @@ used-right-requires : tie.Need-used-right-requires
 used-right-requires c κs = search needs
 
 returns-2 : tie.Need-returns-2
-returns-2 c = sym (fields-tested _ _ _ _ (c .before .before .word-at2 .ensures) (eq-eqb _ _ (sym (c .before .before .before .before .word-at .ensures) ∙ c .before .before .before .if1 .left)) (sym (c .before .used-right .ensures) ∙ not-true _ (c .if2 .taken)) refl)
+returns-2 c = sym (fields-tested _ _ _ _ (c .before .before .word-at2 .ensures) (numbered (c .before .before .before)) (sym (c .before .used-right .ensures) ∙ not-true _ (c .if2 .taken)) refl)
 
 add-zero-between : tie.Need-add-zero-between
 add-zero-between c = search needs
@@ -41,7 +43,9 @@ zero-between-requires : tie.Need-zero-between-requires
 zero-between-requires c κs = omega (arith, used-small _ _ (sym (c .before .used-right .ensures) ∙ not-false _ (c .if2 .left)), c .before .before .before .before .before .before .pre)
 
 returns-3 : tie.Need-returns-3
-returns-3 c = c .zero-between .ensures ∙ sym (fields-tested _ _ _ _ (c .before .before .before .word-at2 .ensures) (eq-eqb _ _ (sym (c .before .before .before .before .before .word-at .ensures) ∙ c .before .before .before .before .if1 .left)) (sym (c .before .before .used-right .ensures) ∙ not-false _ (c .before .if2 .left)) refl)
+returns-3 c =
+    c .zero-between .ensures
+    ∙ sym (fields-tested _ _ _ _ (c .before .before .before .word-at2 .ensures) (numbered (c .before .before .before .before)) (sym (c .before .before .used-right .ensures) ∙ not-false _ (c .before .if2 .left)) refl)
 
 pub block-right-spec : {M : Type 1} → statement M
 block-right-spec =

@@ -5,9 +5,6 @@ use Rattle.rules.proofs.ContainerLaws.{verified-whole}
 use Rattle.blocks.proofs.OpenLaws.{opened-last}
 use Rattle.blocks.proofs.verifying.payload_length.Statement.{statement}
 use Rattle.blocks.proofs.verifying.payload_length.Tie as tie
-use Rattle.blocks.proofs.verifying.payload_length.Reads as reads
-use Rattle.blocks.proofs.verifying.payload_length.Lts as lts
-use Rattle.blocks.proofs.reading.word_at.Reads as word-at-reads
 
 sub-last : tie.Need-sub-last
 sub-last c = omega (arith, verified-whole _ (c .before .pre))

@@ -1,15 +1,14 @@
 -- `blocks::verifying::verify_block` meets its contract: each answer from the tests on its way. Assumes nothing.
-use mathlib.Core.Path.{refl, sym, _∙_}
+use mathlib.Core.Path.{_≡_, refl, sym, _∙_}
+use mathlib.Core.Bool.{true}
+use lib.Dec.{eqb}
 use borrow.Author.Tests.{eq-eqb, ne-eqb}
+use Rattle.rules.specs.Base.{longAt}
+use Rattle.rules.specs.Container.{blockCheck}
 use Rattle.blocks.proofs.BlockLaws.{block-tested}
 use borrow.Author.Needs.{needs}
 use Rattle.blocks.proofs.verifying.verify_block.Statement.{statement}
 use Rattle.blocks.proofs.verifying.verify_block.Tie as tie
-use Rattle.blocks.proofs.verifying.verify_block.Reads as reads
-use Rattle.blocks.proofs.verifying.verify_block.Lts as lts
-use Rattle.blocks.proofs.reading.long_at.Reads as long-at-reads
-use Rattle.blocks.proofs.verifying.block_check.Reads as block-check-reads
-use Rattle.blocks.proofs.verifying.block_right.Reads as block-right-reads
 
 long-at-requires : tie.Need-long-at-requires
 long-at-requires c κs = search needs
@@ -20,14 +19,18 @@ block-check-requires c κs = search needs
 returns : tie.Need-returns
 returns c = sym (block-tested _ _ _ (ne-eqb _ _ (λ e. c .if1 .taken (c .before .before .long-at .ensures ∙ e ∙ sym (c .before .block-check .ensures)))) refl)
 
+-- past the first test the check is right
+summed : (c : tie.Else1) → eqb (longAt (c .before .before .before .before .args .b .now) 508) (blockCheck (c .before .before .before .before .args .b .now)) ≡ true
+summed c = eq-eqb _ _ (sym (c .before .before .long-at .ensures) ∙ c .if1 .left ∙ c .before .block-check .ensures)
+
 block-right-requires : tie.Need-block-right-requires
 block-right-requires c κs = search needs
 
 returns-2 : tie.Need-returns-2
-returns-2 c = sym (block-tested _ _ _ (eq-eqb _ _ (sym (c .before .before .before .before .long-at .ensures) ∙ c .before .before .if1 .left ∙ c .before .before .before .block-check .ensures)) (sym (c .before .block-right .ensures) ∙ c .if2 .taken))
+returns-2 c = sym (block-tested _ _ _ (summed (c .before .before)) (sym (c .before .block-right .ensures) ∙ c .if2 .taken))
 
 returns-3 : tie.Need-returns-3
-returns-3 c = sym (block-tested _ _ _ (eq-eqb _ _ (sym (c .before .before .before .before .long-at .ensures) ∙ c .before .before .if1 .left ∙ c .before .before .before .block-check .ensures)) (sym (c .before .block-right .ensures) ∙ c .if2 .left))
+returns-3 c = sym (block-tested _ _ _ (summed (c .before .before)) (sym (c .before .block-right .ensures) ∙ c .if2 .left))
 
 pub verify-block-spec : {M : Type 1} → statement M
 verify-block-spec =

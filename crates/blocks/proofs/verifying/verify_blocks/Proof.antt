@@ -1,20 +1,19 @@
 -- `blocks::verifying::verify_blocks` meets its contract: what is left to verify decides. Assumes nothing.
-use mathlib.Core.Path.{_≡_, refl, sym, ap, _∙_}
+use mathlib.Core.Path.{_≡_, sym, _∙_}
 use mathlib.Core.Bool.{and-false}
 use Prim.Native.Nat.{_≤_, _-_, _*_, _+_, _/_}
 use native.Mathlib.Nat.{sub-zero}
 use native.Mathlib.Omega.{arith}
 use lib.ListN.{length, drop, length-take, length-drop}
 use borrow.Author.Tests.{le-leb, lt-leb, eq-eqb, ne-eqb}
+use Rattle.rules.specs.Answers.{toldCheck}
+use Rattle.rules.specs.Base.{_>>=_}
 use Rattle.rules.specs.Container.{verify, verifyBlocks, lengthRight}
 use Rattle.rules.proofs.ContainerLaws.{verify-refused, verify-begun}
 use Rattle.blocks.proofs.BlockLaws.{blocks-found}
 use borrow.Author.Needs.{needs}
 use Rattle.blocks.proofs.verifying.verify_blocks.Statement.{statement}
 use Rattle.blocks.proofs.verifying.verify_blocks.Tie as tie
-use Rattle.blocks.proofs.verifying.verify_blocks.Reads as reads
-use Rattle.blocks.proofs.verifying.verify_blocks.Lts as lts
-use Rattle.blocks.proofs.verifying.verify_block.Reads as verify-block-reads
 
 abbrev Inv-loop : tie.InvT-loop
 Inv-loop program len n k₀ k = (k ≤ n) × (verify program ≡ verifyBlocks (n - k) k (drop (512 * k) program))
@@ -36,7 +35,9 @@ returns-3 c = sym (verify-refused _ (simp (ne-eqb _ _ (c .if3 .taken), and-false
 
 loop-holds : tie.Need-loop-holds Inv-loop μ-loop
 unfolding lengthRight
-loop-holds c = let s = c .before .before .before .before .args .program .now in (omega arith, rw sub-zero (verify-begun s (simp (le-leb 1 (length s) (omega arith), le-leb (length s) 32768 (omega arith), eq-eqb _ _ (c .if3 .left)))))
+loop-holds c =
+    let s = c .before .before .before .before .args .program .now in
+    (omega arith, rw sub-zero (verify-begun s (simp (le-leb 1 (length s) (omega arith), le-leb (length s) 32768 (omega arith), eq-eqb _ _ (c .if3 .left)))))
 
 mul-at : tie.Need-mul-at Inv-loop μ-loop
 mul-at c = omega arith
@@ -65,8 +66,18 @@ enum-told c = search needs
 enum-known-checked : tie.Need-enum-known-checked Inv-loop μ-loop
 enum-known-checked c = search needs
 
+-- block k as it was found, and those behind it
+left : (c : tie.After-verify-block Inv-loop μ-loop)
+    → let s = c .before .before .before .before .before .before .before .before .args .program .now in
+    let k = c .before .before .before .loop .k in
+    verify s ≡ (toldCheck (c .verify-block .result) >>= (λ _. verifyBlocks (length s / 512 - (k + 1)) (k + 1) (drop (512 * (k + 1)) s)))
+left c =
+    let s = c .before .before .before .before .before .before .before .before .args .program .now in
+    let k = c .before .before .before .loop .k in
+    c .before .before .before .loop .inv .1 ∙ blocks-found (length s / 512) k (512 * k + 512 - 512 * k) s (c .verify-block .result) (omega arith) (omega arith) (c .verify-block .ensures)
+
 returns-4 : tie.Need-returns-4 Inv-loop μ-loop
-returns-4 c = let k = c .before .before .before .before .before .before .loop .k in let rest = blocks-found (length (c .before .before .before .before .before .before .before .before .before .before .before .args .program .now) / 512) k (512 * k + 512 - 512 * k) (c .before .before .before .before .before .before .before .before .before .before .before .args .program .now) (c .before .before .before .verify-block .result) (omega arith) (omega arith) (c .before .before .before .verify-block .ensures) in sym (c .before .before .before .before .before .before .loop .inv .1 ∙ rest ∙ rw (c .before .checked .given .1))
+returns-4 c = sym (left (c .before .before .before) ∙ rw (c .before .checked .given .1))
 
 add-k : tie.Need-add-k Inv-loop μ-loop
 add-k c = omega arith
@@ -75,11 +86,13 @@ loop-less : tie.Need-loop-less Inv-loop μ-loop
 loop-less c = omega arith
 
 loop-again : tie.Need-loop-again Inv-loop μ-loop
-loop-again c = let k = c .before .before .before .before .before .loop .k in let rest = blocks-found (length (c .before .before .before .before .before .before .before .before .before .before .args .program .now) / 512) k (512 * k + 512 - 512 * k) (c .before .before .before .before .before .before .before .before .before .before .args .program .now) (c .before .before .verify-block .result) (omega arith) (omega arith) (c .before .before .verify-block .ensures) in (omega arith, c .before .before .before .before .before .loop .inv .1 ∙ rest ∙ rw (c .enum-told .given .1))
+loop-again c = (omega arith, left (c .before .before) ∙ rw (c .enum-told .given .1))
 
 returns-5 : tie.Need-returns-5 Inv-loop μ-loop
 unfolding verifyBlocks
-returns-5 c = let e : length (c .before .before .before .before .before .before .args .program .now) / 512 - c .before .loop .k ≡ 0 = omega arith in sym (c .before .loop .inv .1 ∙ rw e)
+returns-5 c =
+    let none : length (c .before .before .before .before .before .before .args .program .now) / 512 - c .before .loop .k ≡ 0 = omega arith in
+    sym (c .before .loop .inv .1 ∙ rw none)
 
 pub verify-blocks-spec : {M : Type 1} → statement M
 verify-blocks-spec =

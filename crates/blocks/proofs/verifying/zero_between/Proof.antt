@@ -1,17 +1,14 @@
 -- `blocks::verifying::zero_between` meets its contract: what is left to look at decides. Assumes nothing.
-use mathlib.Core.Path.{_≡_, refl, sym, _∙_}
+use mathlib.Core.Path.{_≡_, refl, _∙_}
 use Prim.Native.Nat.{_≤_, _-_}
-use borrow.Author.Needs.{needs}
 use borrow.Author.Tests.{eq-eqb, ne-eqb}
 use lib.Seq.{slice-empty}
 use native.Mathlib.Omega.{arith}
-use lib.ListN.{length, take, drop}
+use lib.ListN.{take, drop}
 use Rattle.rules.specs.Base.{all, isZero}
 use Rattle.rules.proofs.ContainerLaws.{part-cons}
 use Rattle.blocks.proofs.verifying.zero_between.Statement.{statement}
 use Rattle.blocks.proofs.verifying.zero_between.Tie as tie
-use Rattle.blocks.proofs.verifying.zero_between.Reads as reads
-use Rattle.blocks.proofs.verifying.zero_between.Lts as lts
 
 abbrev Inv-loop : tie.InvT-loop
 Inv-loop b from to i₀ i = (i ≤ to) × (all isZero (drop from (take to b)) ≡ all isZero (drop i (take to b)))
