@@ -1,0 +1,58 @@
+-- A function's code in the payload, as the passes read it: an instruction at each offset, and a walk over them.
+use mathlib.Core.Path.{_≡_, ap, _∙_}
+use mathlib.Core.List.{List}
+use Prim.Native.Nat.{ℕ, _+_, _*_, _≤_, _<_}
+use native.Mathlib.Omega.{arith}
+use native.Mathlib.Nat.{sub-zero}
+use lib.ListN.{length}
+use Rattle.rules.specs.declared.records.Instruction.{Instruction}
+use Rattle.rules.specs.declared.records.HeadRecord.{HeadRecord}
+use Rattle.rules.specs.Base.{Tried, only, wordAt, numbered}
+use Rattle.rules.specs.Opened.{Opened, FunctionThere}
+use Rattle.rules.specs.Container.{payload}
+use Rattle.rules.specs.Records.{headAt, instructionAt, instructionOf, alternativeOffset, codeOffset, instructionOffset, functionOf}
+use Rattle.rules.specs.Walk.{Arrow, walk}
+use Rattle.rules.proofs.NumberedLaws.{numbered-length}
+use Rattle.typing.specs.declared.code.Code.{Code}
+use Rattle.typing.proofs.Walking.{rest}
+
+-- instruction i, from 0, of code at an offset
+abbrev pub codeAt : List ℕ → ℕ → ℕ → Instruction
+codeAt bytes base i = instructionOf (instructionAt bytes (instructionOffset base i))
+
+-- the code of the function whose head stands at an offset of a payload of n bytes
+pub record CodeThere (bytes : List ℕ) (n at : ℕ) (c : Code) : Type 0 where
+  pub there : FunctionThere bytes at
+  pub long : n ≡ length bytes
+  pub small : n ≤ 32256
+  pub base : c .base ≡ codeOffset bytes at
+  pub last : c .last ≡ wordAt bytes (at + 8)
+
+pub code-there : {file : List ℕ} {n : ℕ} (at : ℕ) (h : HeadRecord) (c : Code) → Opened file n → FunctionThere (payload file) at → h ≡ headAt (payload file) at
+    → (c .base ≡ alternativeOffset at (h .alternatives)) × (c .last ≡ h .instructions) → CodeThere (payload file) n at c
+code-there at h c o t e q = record {
+  there = t;
+  long = o .long;
+  small = o .small;
+  base = q .0 ∙ ap (λ (x : HeadRecord). alternativeOffset at (x .alternatives)) e;
+  last = q .1 ∙ ap (λ (x : HeadRecord). x .instructions) e;
+}
+
+module _ {bytes : List ℕ} {n at : ℕ} {c : Code} (t : CodeThere bytes n at c) where
+  pub code-short : c .last ≤ 256
+  code-short = omega (arith, t .last, t .there .short-code)
+
+  pub code-here : (k : ℕ) → k < c .last → c .base + 4 * k + 4 ≤ n
+  code-here k h = omega (arith, t .base, t .long, t .there .instruction k (omega (arith, t .last)) .0)
+
+  pub code-is : functionOf bytes at .code ≡ numbered (codeAt bytes (c .base)) 0 (c .last)
+  unfolding functionOf
+  code-is = rw (t .base, t .last)
+
+  pub code-length : length (functionOf bytes at .code) ≡ c .last
+  code-length = ap length code-is ∙ numbered-length (codeAt bytes (c .base)) (c .last) 0
+
+  -- the walk over the function's code
+  pub code-walk : {S : Type 0} (rule : ℕ → Instruction → List S → Tried (List (Arrow S))) (start : List (Arrow S))
+      → rest rule (codeAt bytes (c .base)) (c .last) 0 start ≡ only (walk rule 1 start (functionOf bytes at .code))
+  code-walk rule start = rw (code-is, sub-zero)

@@ -1,0 +1,110 @@
+-- The loop keeps that each slot holds the number of what arrives, and that the rest of the walk is the whole.
+use Prim.Native.Nat.{_-_, _≤_}
+use native.Mathlib.Omega.{arith}
+use borrow.Author.Needs.{needs}
+use Rattle.rules.specs.Container.{payload}
+use Rattle.typing.proofs.CodeLaws.{code-there, code-short, code-here}
+use Rattle.typing.proofs.FlowLaws.{Flowing, flow-start, flow-wrong, flow-next, flow-end, flow-room}
+use Rattle.typing.proofs.flow.flow_of.Statement.{statement}
+use Rattle.typing.proofs.flow.flow_of.Tie as tie
+
+abbrev Inv-loop : tie.InvT-loop
+Inv-loop program n g at code last waiting₀ k₀ waiting k = Flowing (payload program) n at g code k waiting
+
+abbrev μ-loop : tie.MeasureT-loop
+μ-loop program n g at code last waiting₀ k₀ waiting k = code .last - k
+
+head-requires : tie.Need-head-requires Inv-loop μ-loop
+head-requires c κs = (c .before .pre .0, omega (arith, c .before .pre .0 .long, c .before .pre .1 .head))
+
+code-of-requires : tie.Need-code-of-requires Inv-loop μ-loop
+code-of-requires c κs = omega (arith, c .before .before .pre .0 .long, c .before .before .pre .0 .small, c .before .before .pre .1 .head)
+
+array-write-waiting : tie.Need-array-write-waiting Inv-loop μ-loop
+array-write-waiting c = search needs
+
+loop-holds : tie.Need-loop-holds Inv-loop μ-loop
+loop-holds c = flow-start _ _ _ _ _ (code-there _ _ _ (c .before .before .before .pre .0) (c .before .before .before .pre .1) (c .before .head .ensures) (c .code-of .ensures))
+
+add-i : tie.Need-add-i Inv-loop μ-loop
+add-i c = omega (arith, code-short (c .before .loop .inv .code))
+
+mul-instruction : tie.Need-mul-instruction Inv-loop μ-loop
+mul-instruction c = omega (arith, code-short (c .before .loop .inv .code))
+
+add-instruction : tie.Need-add-instruction Inv-loop μ-loop
+add-instruction c = omega (arith, code-here (c .before .before .loop .inv .code) (c .before .before .loop .k) (c .before .loop-test .taken), c .before .before .loop .inv .code .small)
+
+instruction-requires : tie.Need-instruction-requires Inv-loop μ-loop
+instruction-requires c κs = (c .before .before .before .before .before .before .pre .0, code-here (c .before .before .loop .inv .code) (c .before .before .loop .k) (c .before .loop-test .taken))
+
+array-read-flow-step : tie.Need-array-read-flow-step Inv-loop μ-loop
+array-read-flow-step c = omega (arith, code-short (c .before .before .before .loop .inv .code), c .before .before .before .loop .inv .walking .room)
+
+flow-step-requires : tie.Need-flow-step-requires Inv-loop μ-loop
+flow-step-requires c κs = omega (arith, code-short (c .before .before .before .loop .inv .code))
+
+returns : tie.Need-returns Inv-loop μ-loop
+returns c = flow-wrong _ _ _ _ _ (c .before .before .before .before .before .loop .inv) (c .before .before .before .before .loop-test .taken) (c .before .before .instruction .ensures) (c .before .flow-step .ensures) (c .if1 .taken)
+
+-- both slots that are stored to are those of instructions
+slots : (c : tie.Else1 Inv-loop μ-loop) → (c .before .flow-step .result .on ≤ 256) × (c .before .flow-step .result .to ≤ 256)
+slots c = flow-room _ _ _ _ _ (c .before .before .before .before .before .loop .inv) (c .before .before .before .before .loop-test .taken) (c .before .before .instruction .ensures) (c .before .flow-step .ensures)
+
+array-read-joined : tie.Need-array-read-joined Inv-loop μ-loop
+array-read-joined c = omega (arith, slots c)
+
+joined-requires : tie.Need-joined-requires Inv-loop μ-loop
+joined-requires c κs = search needs
+
+array-write-waiting-2 : tie.Need-array-write-waiting-2 Inv-loop μ-loop
+array-write-waiting-2 c = omega (arith, slots (c .before))
+
+array-read-joined-2 : tie.Need-array-read-joined-2 Inv-loop μ-loop
+array-read-joined-2 c = omega (arith, slots (c .before))
+
+joined-requires-2 : tie.Need-joined-requires-2 Inv-loop μ-loop
+joined-requires-2 c κs = search needs
+
+array-write-waiting-3 : tie.Need-array-write-waiting-3 Inv-loop μ-loop
+array-write-waiting-3 c = omega (arith, slots (c .before .before))
+
+add-k : tie.Need-add-k Inv-loop μ-loop
+add-k c = omega (arith, code-short (c .before .before .before .before .before .before .before .loop .inv .code))
+
+loop-less : tie.Need-loop-less Inv-loop μ-loop
+loop-less c = omega arith
+
+loop-again : tie.Need-loop-again Inv-loop μ-loop
+loop-again c = flow-next _ _ _ _ _ (c .before .before .before .before .before .before .before .loop .inv) (c .before .before .before .before .before .before .loop-test .taken) (c .before .before .before .before .instruction .ensures) (c .before .before .before .flow-step .ensures) (c .before .before .if1 .left) (c .before .joined .ensures) (c .joined2 .ensures)
+
+returns-2 : tie.Need-returns-2 Inv-loop μ-loop
+returns-2 c = flow-end _ _ _ _ _ (c .before .loop .inv) (c .loop-test .left)
+
+pub flow-of-spec : {M : Type 1} → statement M
+flow-of-spec =
+    tie.close
+    (tie.spec
+    Inv-loop
+    μ-loop
+    head-requires
+    code-of-requires
+    array-write-waiting
+    loop-holds
+    add-i
+    mul-instruction
+    add-instruction
+    instruction-requires
+    array-read-flow-step
+    flow-step-requires
+    returns
+    array-read-joined
+    joined-requires
+    array-write-waiting-2
+    array-read-joined-2
+    joined-requires-2
+    array-write-waiting-3
+    add-k
+    loop-less
+    loop-again
+    returns-2)

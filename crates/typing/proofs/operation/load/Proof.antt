@@ -1,0 +1,49 @@
+-- A slot from 1 to the height is there, and no other.
+use mathlib.Core.Path.{sym, _∙_}
+use native.Mathlib.Omega.{arith}
+use borrow.Author.Needs.{needs}
+use Rattle.typing.specs.Typing.{stackOf}
+use Rattle.typing.proofs.TypeLaws.{load-none, load-past, load-goes}
+use Rattle.typing.proofs.operation.load.Statement.{statement}
+use Rattle.typing.proofs.operation.load.Tie as tie
+
+wide-requires : tie.Need-wide-requires
+wide-requires c κs = search needs
+
+ends-requires : tie.Need-ends-requires
+ends-requires c κs = search needs
+
+returns : tie.Need-returns
+returns c = λ s n f. load-none s n f _ _ (c .before .before .before .pre .0) (c .ends .ensures) (sym (c .before .before .wide .ensures .0) ∙ c .before .if1 .taken)
+
+ends-requires-2 : tie.Need-ends-requires-2
+ends-requires-2 c κs = search needs
+
+returns-2 : tie.Need-returns-2
+returns-2 c = λ s n f. load-past s n f _ _ (c .before .before .before .before .before .pre .0) (c .ends2 .ensures) (omega (arith, c .before .before .before .before .wide .ensures .0, c .before .if2 .taken))
+
+sub-onward : tie.Need-sub-onward
+sub-onward c = search needs
+
+array-read-onward : tie.Need-array-read-onward
+array-read-onward c = search needs
+
+onward-requires : tie.Need-onward-requires
+onward-requires c κs = search needs
+
+returns-3 : tie.Need-returns-3
+returns-3 c = λ s n f. load-goes s n f _ _ (c .before .before .before .before .before .before .pre .0) (λ z. c .before .before .before .before .if1 .left (c .before .before .before .before .before .wide .ensures .0 ∙ z)) (omega (arith, c .before .before .before .before .before .wide .ensures .0, c .before .before .if2 .left)) (rw (c .before .before .before .before .before .wide .ensures .0) at (c .onward .ensures s n f (stackOf (c .before .before .before .before .before .before .args .st))))
+
+pub load-spec : {M : Type 1} → statement M
+load-spec =
+    tie.close
+    (tie.spec
+    wide-requires
+    ends-requires
+    returns
+    ends-requires-2
+    returns-2
+    sub-onward
+    array-read-onward
+    onward-requires
+    returns-3)
