@@ -1,0 +1,17 @@
+-- One alternative with no coefficient: it computes.
+use mathlib.Core.Path.{refl}
+use native.Mathlib.Omega.{arith}
+use Rattle.rules.specs.Lists.{l[], _l∷_}
+use Rattle.rules.specs.Forms.{constantOnly}
+use borrow.Author.Needs.{needs}
+use Rattle.sizing.proofs.forms.constant_form.Statement.{statement}
+use Rattle.sizing.proofs.forms.constant_form.Tie as tie
+use Rattle.sizing.proofs.forms.constant_form.Reads as reads
+use Rattle.sizing.proofs.forms.constant_form.Lts as lts
+
+returns : tie.Need-returns
+unfolding constantOnly
+returns c = (record { few = omega arith; long = refl; wide = refl l∷ l[] }, refl, refl)
+
+pub constant-form-spec : {M : Type 1} → statement M
+constant-form-spec = tie.close (tie.spec returns)

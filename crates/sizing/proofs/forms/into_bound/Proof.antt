@@ -1,0 +1,120 @@
+-- `sizing::into_bound` meets its contract: the first i rows are done. Assumes nothing.
+use mathlib.Core.Path.{_≡_, refl, sym, ap, _∙_}
+use native.Mathlib.Omega.{arith}
+use lib.ListN.{length, getD, take, drop}
+use Rattle.sizing.specs.Forms.{formIn, FormRight, Made, argumentsIn, noRow}
+use Rattle.sizing.proofs.BoundLaws.{Joining, joining-start, joining-next, joining-many, joining-over, joining-end}
+use Prim.Native.Nat.{ℕ, _≤_, _<_, _+_, _-_, _*_}
+use borrow.Author.Needs.{needs}
+use Rattle.sizing.proofs.forms.into_bound.Statement.{statement}
+use Rattle.sizing.proofs.forms.into_bound.Tie as tie
+use Rattle.sizing.proofs.forms.into_bound.Reads as reads
+use Rattle.sizing.proofs.forms.into_bound.Lts as lts
+use Rattle.sizing.proofs.forms.joined.Reads as joined-reads
+use Rattle.sizing.proofs.forms.no_form.Reads as no-form-reads
+use Rattle.sizing.proofs.forms.substitute.Reads as substitute-reads
+
+abbrev Inv-loop : tie.InvT-loop
+Inv-loop n arguments bound k x₀ i₀ x i = (i ≤ k) × Joining n bound (argumentsIn arguments n) i x
+
+abbrev μ-loop : tie.MeasureT-loop
+μ-loop n arguments bound k x₀ i₀ x i = k - i
+
+no-form-requires : tie.Need-no-form-requires Inv-loop μ-loop
+no-form-requires c κs = search needs
+
+loop-holds : tie.Need-loop-holds Inv-loop μ-loop
+loop-holds c =
+    let s = c .before in
+    (search needs, joining-start (s .args .n) (s .args .t1) (argumentsIn (s .args .arguments) (s .args .n)) (s .pre .0) (c .no-form .result) (c .no-form .ensures .0) (c .no-form .ensures .1))
+
+mul-row : tie.Need-mul-row Inv-loop μ-loop
+mul-row c = search needs
+
+element-copy-out-row : tie.Need-element-copy-out-row Inv-loop μ-loop
+element-copy-out-row c = search needs
+
+substitute-requires : tie.Need-substitute-requires Inv-loop μ-loop
+substitute-requires c κs =
+    let s = c .before .before .before .before in
+    (s .pre .0 .each (c .before .before .loop .i) (c .before .loop-test .taken), s .pre .1)
+
+returns : tie.Need-returns Inv-loop μ-loop
+returns c =
+    let s = c .before .before .before .before .before .before in
+    let l = c .before .before .before .before .loop in
+    let z = c .if1 .taken in
+    record {
+      many = joining-many (s .args .n) (s .args .t1) (argumentsIn (s .args .arguments) (s .args .n)) (s .pre .0) (l .i) (c .before .before .before .loop-test .taken) (l .x) (c .before .substitute .result) (l .inv .1) (c .before .substitute .ensures);
+      right = λ g. absurd (omega arith);
+    }
+
+add-if2 : tie.Need-add-if2 Inv-loop μ-loop
+add-if2 c =
+    let l = c .before .before .before .before .loop in
+    let z : 0 < c .before .substitute .result .count = omega (arith, c .if1 .left) in
+    let a = l .inv .1 .right .few in
+    let b = c .before .substitute .ensures .right z .0 .few in
+    omega arith
+
+no-form-requires-2 : tie.Need-no-form-requires-2 Inv-loop μ-loop
+no-form-requires-2 c κs = search needs
+
+returns-2 : tie.Need-returns-2 Inv-loop μ-loop
+returns-2 c =
+    let s = c .before .before .before .before .before .before .before .before in
+    let l = c .before .before .before .before .before .before .loop in
+    let z = c .no-form2 .ensures .1 in
+    record {
+      many = λ g. joining-over (s .args .n) (s .args .t1) (argumentsIn (s .args .arguments) (s .args .n)) (s .pre .0) (l .i) (c .before .before .before .before .before .loop-test .taken) (l .x) (c .before .before .before .substitute .result) (l .inv .1) (c .before .before .before .substitute .ensures) (c .before .before .if1 .left) (c .before .if2 .taken);
+      right = λ g. absurd (omega arith);
+    }
+
+joined-requires : tie.Need-joined-requires Inv-loop μ-loop
+joined-requires c κs =
+    let l = c .before .before .before .before .before .loop in
+    let y = c .before .before .substitute .ensures in
+    let z : 0 < c .before .before .substitute .result .count = omega (arith, c .before .if1 .left) in
+    (l .inv .1 .right, y .right z .0, c .if2 .left)
+
+add-i : tie.Need-add-i Inv-loop μ-loop
+add-i c = search needs
+
+loop-less : tie.Need-loop-less Inv-loop μ-loop
+loop-less c = search needs
+
+loop-again : tie.Need-loop-again Inv-loop μ-loop
+loop-again c =
+    let s = c .before .before .before .before .before .before .before .before in
+    let l = c .before .before .before .before .before .before .loop in
+    let e = c .joined .ensures in (
+      search needs,
+      joining-next (s .args .n) (s .args .t1) (argumentsIn (s .args .arguments) (s .args .n)) (s .pre .0) (l .i) (c .before .before .before .before .before .loop-test .taken) (l .x) (c .before .before .before .substitute .result) (l .inv .1) (c .before .before .before .substitute .ensures) (c .joined .result) (c .before .before .if1 .left) (e .0) (e .1) (e .2),
+    )
+
+returns-3 : tie.Need-returns-3 Inv-loop μ-loop
+returns-3 c =
+    let s = c .before .before .before in
+    let l = c .before .loop in
+    joining-end (s .args .n) (s .args .t1) (argumentsIn (s .args .arguments) (s .args .n)) (s .pre .0) (l .i) (l .x) (omega arith) (l .inv .1)
+
+pub into-bound-spec : {M : Type 1} → statement M
+into-bound-spec =
+    tie.close
+    (tie.spec
+    Inv-loop
+    μ-loop
+    no-form-requires
+    loop-holds
+    mul-row
+    element-copy-out-row
+    substitute-requires
+    returns
+    add-if2
+    no-form-requires-2
+    returns-2
+    joined-requires
+    add-i
+    loop-less
+    loop-again
+    returns-3)

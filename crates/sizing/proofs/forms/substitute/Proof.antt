@@ -1,0 +1,77 @@
+-- The arguments from t on are put in.
+use mathlib.Core.Path.{_≡_}
+use Prim.Native.Nat.{_≤_, _+_, _-_}
+use native.Mathlib.Omega.{arith}
+use Rattle.sizing.proofs.SubstLaws.{Substituting, substituting-start, substituting-asks, substituting-next}
+use borrow.Author.Needs.{needs}
+use Rattle.sizing.proofs.forms.substitute.Statement.{statement}
+use Rattle.sizing.proofs.forms.substitute.Tie as tie
+use Rattle.sizing.proofs.forms.substitute.Reads as reads
+use Rattle.sizing.proofs.forms.substitute.Lts as lts
+use Rattle.sizing.proofs.forms.chosen.Reads as chosen-reads
+use Rattle.sizing.proofs.forms.constant_form.Reads as constant-form-reads
+
+abbrev Inv-loop : tie.InvT-loop
+Inv-loop n row arguments rest₀ t₀ rest t = (t ≤ n) × Substituting row n arguments t rest
+
+abbrev μ-loop : tie.MeasureT-loop
+μ-loop n row arguments rest₀ t₀ rest t = t
+
+cast-constant-form : tie.Need-cast-constant-form Inv-loop μ-loop
+cast-constant-form c = let z = c .pre .0 .constant in omega arith
+
+constant-form-requires : tie.Need-constant-form-requires Inv-loop μ-loop
+constant-form-requires c κs = search needs
+
+loop-holds : tie.Need-loop-holds Inv-loop μ-loop
+loop-holds c = let e = c .constant-form .ensures in (search needs, substituting-start (c .before .args .t1) (c .before .args .n) (c .before .args .t3) (c .before .pre .0) (c .before .pre .1) (c .constant-form .result) (e .0) (e .1) (e .2))
+
+sub-k : tie.Need-sub-k Inv-loop μ-loop
+sub-k c = search needs
+
+mul-f : tie.Need-mul-f Inv-loop μ-loop
+mul-f c = let z = c .before .before .before .pre .1 .few in omega arith
+
+array-copy-out-f : tie.Need-array-copy-out-f Inv-loop μ-loop
+array-copy-out-f c = let z = c .before .before .before .pre .1 .few in omega arith
+
+element-copy-out-chosen : tie.Need-element-copy-out-chosen Inv-loop μ-loop
+element-copy-out-chosen c = search needs
+
+cast-chosen : tie.Need-cast-chosen Inv-loop μ-loop
+cast-chosen c = omega (arith, c .before .before .before .before .before .pre .0 .small (c .before .before .before .loop .t - 1))
+
+chosen-requires : tie.Need-chosen-requires Inv-loop μ-loop
+chosen-requires c κs = let e : c .before .before .before .loop .t ≡ c .before .before .before .loop .t - 1 + 1 = omega arith in substituting-asks (c .before .before .before .before .before .args .t1) (c .before .before .before .before .before .args .n) (c .before .before .before .before .before .args .t3) (c .before .before .before .before .before .pre .0) (c .before .before .before .before .before .pre .1) (c .before .before .before .loop .t - 1) (c .before .before .before .loop .rest) (omega arith) (rw e at (c .before .before .before .loop .inv .1))
+
+returns : tie.Need-returns Inv-loop μ-loop
+returns c = let e : c .before .before .before .before .before .loop .t ≡ c .before .before .before .before .before .loop .t - 1 + 1 = omega arith in let q = substituting-next (c .before .before .before .before .before .before .before .args .t1) (c .before .before .before .before .before .before .before .args .n) (c .before .before .before .before .before .before .before .args .t3) (c .before .before .before .before .before .before .before .pre .0) (c .before .before .before .before .before .before .before .pre .1) (c .before .before .before .before .before .loop .t - 1) (c .before .before .before .before .before .loop .rest) (c .before .chosen .result) (omega arith) (rw e at (c .before .before .before .before .before .loop .inv .1)) (c .before .chosen .ensures) in let z = c .if1 .taken in record { many = q .1; right = λ g. absurd (omega arith) }
+
+loop-less : tie.Need-loop-less Inv-loop μ-loop
+loop-less c = search needs
+
+loop-again : tie.Need-loop-again Inv-loop μ-loop
+loop-again c = let e : c .before .before .before .before .before .loop .t ≡ c .before .before .before .before .before .loop .t - 1 + 1 = omega arith in let q = substituting-next (c .before .before .before .before .before .before .before .args .t1) (c .before .before .before .before .before .before .before .args .n) (c .before .before .before .before .before .before .before .args .t3) (c .before .before .before .before .before .before .before .pre .0) (c .before .before .before .before .before .before .before .pre .1) (c .before .before .before .before .before .loop .t - 1) (c .before .before .before .before .before .loop .rest) (c .before .chosen .result) (omega arith) (rw e at (c .before .before .before .before .before .loop .inv .1)) (c .before .chosen .ensures) in (omega arith, q .0 (c .if1 .left))
+
+returns-2 : tie.Need-returns-2 Inv-loop μ-loop
+returns-2 c = let e : c .before .loop .t ≡ 0 = omega arith in let q = rw e at (c .before .loop .inv .1) in let y = q .some in record { many = λ z. absurd (omega arith); right = λ g. (q .right, q .same) }
+
+pub substitute-spec : {M : Type 1} → statement M
+substitute-spec =
+    tie.close
+    (tie.spec
+    Inv-loop
+    μ-loop
+    cast-constant-form
+    constant-form-requires
+    loop-holds
+    sub-k
+    mul-f
+    array-copy-out-f
+    element-copy-out-chosen
+    cast-chosen
+    chosen-requires
+    returns
+    loop-less
+    loop-again
+    returns-2)

@@ -1,0 +1,83 @@
+-- The first i rows are done.
+use mathlib.Core.Path.{_≡_, refl, sym, ap, _∙_}
+use mathlib.Core.List.{List, [], _∷_, _++_, map}
+use Prim.Native.Nat.{_≤_, _+_, _-_}
+use native.Mathlib.Omega.{arith}
+use lib.ListN.{length, getD, take, length-set}
+use Rattle.rules.specs.declared.records.Alternative.{Alternative}
+use Rattle.rules.proofs.ListLaws.{all-any, all-mapped}
+use Rattle.sizing.specs.Splits.{carried}
+use Rattle.sizing.specs.Forms.{noRow}
+use Rattle.sizing.specs.Steps.{ownRow}
+use Rattle.sizing.proofs.ListLaws.{take-stored, map-next}
+use Rattle.sizing.proofs.SplitLaws.{carried-wide}
+use Rattle.sizing.proofs.OwnLaws.{widened-wide}
+use borrow.Author.Needs.{needs}
+use Rattle.sizing.proofs.line.own_form.Statement.{statement}
+use Rattle.sizing.proofs.line.own_form.Tie as tie
+use Rattle.sizing.proofs.line.own_form.Reads as reads
+use Rattle.sizing.proofs.line.own_form.Lts as lts
+use Rattle.sizing.proofs.forms.no_form.Reads as no-form-reads
+use Rattle.sizing.proofs.line.widen.Reads as widen-reads
+use Rattle.sizing.proofs.splits.carry.Reads as carry-reads
+
+abbrev Inv-loop : tie.InvT-loop
+Inv-loop s bound n x₀ i₀ x i = (i ≤ n) × (length (x .alternatives) ≡ 16) × (take i (x .alternatives) ≡ map (λ row. carried (take (s .taken) (s .list)) (ownRow row)) (take i (bound .rows)))
+
+abbrev μ-loop : tie.MeasureT-loop
+μ-loop s bound n x₀ i₀ x i = n - i
+
+no-form-requires : tie.Need-no-form-requires Inv-loop μ-loop
+no-form-requires c κs = search needs
+
+loop-holds : tie.Need-loop-holds Inv-loop μ-loop
+loop-holds c = (search needs, c .no-form .ensures .0 .long, refl)
+
+mul-row : tie.Need-mul-row Inv-loop μ-loop
+mul-row c = let f = c .before .before .before .pre .bound .few in omega arith
+
+element-copy-out-row : tie.Need-element-copy-out-row Inv-loop μ-loop
+element-copy-out-row c = let f = c .before .before .before .pre .bound .few in omega arith
+
+widen-requires : tie.Need-widen-requires Inv-loop μ-loop
+widen-requires c κs = c .before .before .before .before .pre .bound .each (c .before .before .loop .i) (c .before .loop-test .taken)
+
+carry-requires : tie.Need-carry-requires Inv-loop μ-loop
+carry-requires c κs = rw (c .widen .ensures) (c .before .before .before .before .before .pre .carrying (c .before .before .before .loop .i) (c .before .before .loop-test .taken))
+
+mul-t10 : tie.Need-mul-t10 Inv-loop μ-loop
+mul-t10 c = let f = c .before .before .before .before .before .before .pre .bound .few in omega arith
+
+element-set-from-x : tie.Need-element-set-from-x Inv-loop μ-loop
+element-set-from-x c = let f = c .before .before .before .before .before .before .pre .bound .few in omega arith
+
+add-i : tie.Need-add-i Inv-loop μ-loop
+add-i c = search needs
+
+loop-less : tie.Need-loop-less Inv-loop μ-loop
+loop-less c = search needs
+
+loop-again : tie.Need-loop-again Inv-loop μ-loop
+loop-again c = let f = c .before .before .before .before .before .before .pre .bound .few in let g = c .before .before .before .before .before .before .pre .bound .four in let a = c .before .before .before .before .loop .inv .1 in (omega arith, length-set (c .before .before .before .before .loop .x .alternatives) (c .before .before .before .before .loop .i) (c .carry .result) ∙ c .before .before .before .before .loop .inv .1, take-stored (c .before .before .before .before .loop .x .alternatives) (map (λ row. carried (take (c .before .before .before .before .before .before .args .s .taken) (c .before .before .before .before .before .before .args .s .list)) (ownRow row)) (take (c .before .before .before .before .loop .i) (c .before .before .before .before .before .before .args .t1 .rows))) (c .before .before .before .before .loop .i) (c .carry .result) (omega arith) (c .before .before .before .before .loop .inv .2) ∙ ap (λ (y : Alternative). map (λ row. carried (take (c .before .before .before .before .before .before .args .s .taken) (c .before .before .before .before .before .before .args .s .list)) (ownRow row)) (take (c .before .before .before .before .loop .i) (c .before .before .before .before .before .before .args .t1 .rows)) ++ (y ∷ [])) (rw (c .before .widen .ensures) at (c .carry .ensures)) ∙ sym (map-next noRow (λ row. carried (take (c .before .before .before .before .before .before .args .s .taken) (c .before .before .before .before .before .before .args .s .list)) (ownRow row)) (c .before .before .before .before .before .before .args .t1 .rows) (c .before .before .before .before .loop .i) (omega arith)))
+
+returns : tie.Need-returns Inv-loop μ-loop
+returns c = let e : c .before .loop .i ≡ c .before .before .before .args .t1 .count = omega arith in let q = rw e at (c .before .loop .inv .2) in let f = c .before .before .before .pre .bound .few in record { right = record { few = omega arith; long = c .before .loop .inv .1; wide = rw q (all-mapped (λ row. carried (take (c .before .before .before .args .s .taken) (c .before .before .before .args .s .list)) (ownRow row)) (λ row (u : Unit {0}). carried-wide (take (c .before .before .before .args .s .taken) (c .before .before .before .args .s .list)) (ownRow row) (widened-wide 0 (row .coefficients) (row .constant))) (all-any (take (c .before .before .before .args .t1 .count) (c .before .before .before .args .t1 .rows)))) }; count = refl; same = q }
+
+pub own-form-spec : {M : Type 1} → statement M
+own-form-spec =
+    tie.close
+    (tie.spec
+    Inv-loop
+    μ-loop
+    no-form-requires
+    loop-holds
+    mul-row
+    element-copy-out-row
+    widen-requires
+    carry-requires
+    mul-t10
+    element-set-from-x
+    add-i
+    loop-less
+    loop-again
+    returns)

@@ -1,0 +1,172 @@
+-- `sizing::branch_variable` meets its contract: one law for each way out. Assumes nothing.
+use mathlib.Core.Path.{_≡_, refl, sym, ap, _∙_}
+use mathlib.Core.List.{List, [], _∷_, _++_, map}
+use mathlib.Core.Bool.{Bool, true, false}
+use Prim.Native.Nat.{ℕ, suc, _≤_, _<_, _+_, _-_, _*_}
+use native.Mathlib.Omega.{arith}
+use lib.ListN.{length, getD, set, take}
+use Rattle.rules.specs.Program.{arity}
+use Rattle.sizing.specs.Splits.{noSplit}
+use Rattle.sizing.specs.States.{stackIn, splitsIn, upFrom, Found, SameSplits, SplitMore}
+use Rattle.sizing.specs.Steps.{topOf, BranchAsks, BranchSays, Branching, arrowsOf, given}
+use Rattle.rules.proofs.ListLaws.{false-true}
+use Rattle.sizing.proofs.StateLaws.{found-whole}
+use Rattle.sizing.proofs.StepLaws.{branch-taken, branch-other, branch-over, branch-split}
+use borrow.Author.Needs.{needs}
+use Rattle.sizing.proofs.paths.branch_variable.Statement.{statement}
+use Rattle.sizing.proofs.paths.branch_variable.Tie as tie
+use Rattle.sizing.proofs.paths.branch_variable.Reads as reads
+use Rattle.sizing.proofs.paths.branch_variable.Lts as lts
+use Rattle.sizing.proofs.paths.add_taken.Reads as add-taken-reads
+use Rattle.sizing.proofs.paths.find_split.Reads as find-split-reads
+use Rattle.sizing.proofs.paths.push_parts.Reads as push-parts-reads
+use Rattle.sizing.proofs.paths.unvisited.Reads as unvisited-reads
+
+unvisited-requires : tie.Need-unvisited-requires
+unvisited-requires c κs = search needs
+
+sub-v : tie.Need-sub-v
+sub-v c = search needs
+
+element-copy-out-v : tie.Need-element-copy-out-v
+element-copy-out-v c = search needs
+
+find-split-requires : tie.Need-find-split-requires
+find-split-requires c κs = search needs
+
+mul-p : tie.Need-mul-p
+mul-p c = search needs
+
+element-copy-out-p : tie.Need-element-copy-out-p
+element-copy-out-p c = search needs
+
+push-parts-requires : tie.Need-push-parts-requires
+push-parts-requires c κs =
+    let s = c .before .before .before .before .before .before .before in
+    let q = s .pre .each (c .before .before .before .before .find-split .result) (c .before .before .before .if1 .taken) (c .if2 .taken) in
+    (s .pre .some, s .pre .fits, q .1, s .pre .long)
+
+returns : tie.Need-returns
+returns c =
+    let st = c .before .before .before .before .before .before .before .before .args .t1 in
+    let pre = c .before .before .before .before .before .before .before .before .pre in
+    let at = c .before .before .before .before .before .find-split .result in
+    let fd = c .before .before .before .before .before .find-split .ensures in
+    let nv = c .before .before .before .before .before .before .before .unvisited .ensures in
+    let e = c .push-parts .ensures in
+    let q = pre .each at (c .before .before .before .before .if1 .taken) (c .before .if2 .taken) in
+    λ s n f i b k r v known pn pw.
+    let fits = pre .fits in
+    let some = pre .some in
+    let hi = e .1 in
+    let x = branch-taken s n f st r some i b (c .before .before .before .before .before .before .before .before .args .c) k known at fd (c .push-parts .result) (c .before .before .before .before .if1 .taken) (c .before .if2 .taken) (e .0) (omega arith) (rw (q .0) (e .2)) in
+    let xv = e .0 .visited ∙ v in
+    record {
+      large = λ z. absurd (false-true z);
+      goes = λ z. rw (xv, nv) (x .0);
+      next = λ z. (x .1, e .1);
+      other = λ z. absurd (false-true (sym nv ∙ z));
+    }
+
+returns-2 : tie.Need-returns-2
+returns-2 c =
+    let st = c .before .before .before .before .before .before .before .args .t1 in
+    let pre = c .before .before .before .before .before .before .before .pre in
+    let at = c .before .before .before .before .find-split .result in
+    let fd = c .before .before .before .before .find-split .ensures in
+    let nv = c .before .before .before .before .before .before .unvisited .ensures in
+    λ s n f i b k r v known pn pw.
+    record {
+      large = λ z. absurd (false-true z);
+      goes = λ z. rw (nv, v) (branch-other s n f st r (pre .some) i b (c .before .before .before .before .before .before .before .args .c) k known at fd (c .before .before .before .if1 .taken) (c .if2 .left));
+      next = λ z. absurd (false-true (sym nv ∙ z));
+      other = λ z. (r, refl);
+    }
+
+add-if3 : tie.Need-add-if3
+add-if3 c = search needs
+
+returns-3 : tie.Need-returns-3
+returns-3 c =
+    let st = c .before .before .before .before .before .args .t1 in
+    let pre = c .before .before .before .before .before .pre in
+    let at = c .before .before .find-split .result in
+    let fd = c .before .before .find-split .ensures in
+    let nv = c .before .before .before .before .unvisited .ensures in
+    let m = fd .most in
+    let o = c .if3 .taken in
+    let left = c .before .if1 .left in
+    λ s n f i b k r v known pn pw.
+    record {
+      large = λ z. branch-over s n f st r (pre .some) i b (c .before .before .before .before .before .args .c) k known at fd (omega arith) (omega arith);
+      goes = λ z. absurd (false-true (sym z));
+      next = λ z. absurd (false-true (sym nv ∙ z));
+      other = λ z. absurd (false-true (sym nv ∙ z));
+    }
+
+cast-first : tie.Need-cast-first
+cast-first c = search needs
+
+add-taken-requires : tie.Need-add-taken-requires
+add-taken-requires c κs =
+    let s = c .before .before .before .before .before in
+    let fd = c .before .before .find-split .ensures in
+    let m = fd .most in
+    let left = c .before .if1 .left in
+    let l = s .pre .list in
+    let w = s .pre .few in
+    (s .pre .room (found-whole (topOf (s .args .t1)) (s .args .t1 .taken) (s .args .t1 .list) (c .before .before .find-split .result) fd (omega arith) (omega arith)), s .pre .list, c .if3 .left)
+
+push-parts-requires-2 : tie.Need-push-parts-requires-2
+push-parts-requires-2 c κs = search needs
+
+returns-4 : tie.Need-returns-4
+returns-4 c =
+    let st = c .before .before .before .before .before .before .before .args .t1 in
+    let pre = c .before .before .before .before .before .before .before .pre in
+    let at = c .before .before .before .before .find-split .result in
+    let fd = c .before .before .before .before .find-split .ensures in
+    let e = c .push-parts2 .ensures in
+    let a = c .before .add-taken .ensures in
+    let m = fd .most in
+    let left = c .before .before .before .if1 .left in
+    let l = pre .list in
+    let w = pre .few in
+    let hi = e .1 in
+    let ah = a .height in
+    let o = c .before .before .if3 .left in
+    λ s n f i b k r v known pn pw.
+    let fits = pre .fits in
+    let some = pre .some in
+    let same : at ≡ st .taken = omega arith in
+    let room = pre .room (found-whole (topOf st) (st .taken) (st .list) at fd same (omega arith)) in
+    let x = branch-split s n f st r some i b (c .before .before .before .before .before .before .before .args .c) k known at fd
+    (record { variable = topOf st; constructor = c .before .before .before .before .before .before .before .args .c; first = st .count; parts = c .before .before .before .before .before .before .before .args .parts; weight = c .before .before .before .before .before .before .before .args .weight })
+    (c .before .add-taken .result) (c .push-parts2 .result) same refl refl refl pn pw o room a (e .0) (omega arith) (rw (a .height, a .stack) at (e .2)) in
+    let xv = e .0 .visited ∙ a .visited ∙ v in
+    record {
+      large = λ z. absurd (false-true z);
+      goes = λ z. rw (xv, v) (x .0);
+      next = λ z. (x .1, e .1 ∙ ap (λ (h : ℕ). h - 1 + c .before .before .before .before .before .before .before .args .parts) (a .height));
+      other = λ z. (r, refl);
+    }
+
+pub branch-variable-spec : {M : Type 1} → statement M
+branch-variable-spec =
+    tie.close
+    (tie.spec
+    unvisited-requires
+    sub-v
+    element-copy-out-v
+    find-split-requires
+    mul-p
+    element-copy-out-p
+    push-parts-requires
+    returns
+    returns-2
+    add-if3
+    returns-3
+    cast-first
+    add-taken-requires
+    push-parts-requires-2
+    returns-4)

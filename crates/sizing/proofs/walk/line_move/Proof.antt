@@ -1,0 +1,43 @@
+-- What `straight_line` says, as a step.
+use Rattle.sizing.proofs.MoveLaws.{line-move-asks, said-line-end, said-line-refused}
+use borrow.Author.Needs.{needs}
+use Rattle.sizing.proofs.walk.line_move.Statement.{statement}
+use Rattle.sizing.proofs.walk.line_move.Tie as tie
+use Rattle.sizing.proofs.walk.line_move.Reads as reads
+use Rattle.sizing.proofs.walk.line_move.Lts as lts
+use Rattle.sizing.proofs.line.straight_line.Reads as straight-line-reads
+use Rattle.sizing.proofs.walk.refuse.Reads as refuse-reads
+use Rattle.sizing.proofs.walk.stay.Reads as stay-reads
+
+straight-line-requires : tie.Need-straight-line-requires
+straight-line-requires c κs = line-move-asks (c .before .pre)
+
+enum-known-line : tie.Need-enum-known-line
+enum-known-line c = search needs
+
+stay-requires : tie.Need-stay-requires
+stay-requires c κs = search needs
+
+enum-known-line-2 : tie.Need-enum-known-line-2
+enum-known-line-2 c = search needs
+
+refuse-requires : tie.Need-refuse-requires
+refuse-requires c κs = search needs
+
+returns : tie.Need-returns
+returns c = said-line-end (c .before .before .before .before .before .before .pre) (c .before .before .before .before .straight-line .ensures) (c .before .before .line .given .0 .0) (c .before .before .line .given .1) (c .stay .ensures)
+
+returns-2 : tie.Need-returns-2
+returns-2 c = said-line-refused (c .before .before .before .before .before .before .pre) (c .before .before .before .before .straight-line .ensures) (c .before .before .line2 .given .0 .0) (c .before .before .line2 .given .1) (c .refuse .ensures)
+
+pub line-move-spec : {M : Type 1} → statement M
+line-move-spec =
+    tie.close
+    (tie.spec
+    straight-line-requires
+    enum-known-line
+    stay-requires
+    enum-known-line-2
+    refuse-requires
+    returns
+    returns-2)

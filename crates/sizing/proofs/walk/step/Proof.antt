@@ -1,0 +1,193 @@
+-- One law for each way through: nothing arrives, or one of the six instructions.
+use mathlib.Core.Path.{_≡_, refl, ap, _∙_}
+use mathlib.Core.List.{List}
+use mathlib.Core.Option.{some}
+use Prim.Native.Nat.{ℕ, _+_, _*_, _-_, _≤_}
+use native.Mathlib.Omega.{arith}
+use lib.ListN.{length}
+use borrow.Author.Tests.{not-true, not-false}
+use Rattle.rules.specs.declared.records.Instruction.{Instruction}
+use Rattle.rules.specs.declared.records.Instruction.the-variants.{Build, Call}
+use Rattle.rules.specs.Shapes.{shapeFrom}
+use Rattle.sizing.specs.declared.paths.Saved.{Saved}
+use Rattle.sizing.specs.Walking.{functionIn}
+use Rattle.sizing.specs.Moves.{MoveAsks}
+use Rattle.sizing.proofs.FileLaws.{here}
+use Rattle.sizing.proofs.ReachLaws.{at-place, at-instruction}
+use Rattle.sizing.proofs.MoveLaws.{said-skipped, said-end, move-load-asks, said-load}
+use borrow.Author.Needs.{needs}
+use Rattle.sizing.proofs.walk.step.Statement.{statement}
+use Rattle.sizing.proofs.walk.step.Tie as tie
+use Rattle.sizing.proofs.walk.step.Reads as reads
+use Rattle.sizing.proofs.walk.step.Lts as lts
+use Rattle.program.proofs.instruction.Reads as instruction-reads
+use Rattle.program.proofs.wide.Reads as wide-reads
+use Rattle.sizing.proofs.paths.load_variable.Reads as load-variable-reads
+use Rattle.sizing.proofs.paths.unvisited.Reads as unvisited-reads
+use Rattle.sizing.proofs.walk.branch.Reads as branch-reads
+use Rattle.sizing.proofs.walk.line_move.Reads as line-move-reads
+use Rattle.sizing.proofs.walk.stay.Reads as stay-reads
+
+---- What is known at a place of the code
+
+short : (c : tie.After-shared-slice-known) → c .before .args .i ≤ 256
+short c =
+    let p = c .before .pre in
+    omega (arith, p .last, p .routine .last, here (p .function .walking) (c .before .args .g) (p .function .there) .short-code)
+
+place : (c : tie.Else1) → let s = c .before .before .before in
+    (1 ≤ s .args .i) × (s .args .i ≤ length (functionIn (s .args .program .now) (s .args .g) .code)) × (s .args .i ≤ 256) × (s .args .f .base + 4 * (s .args .i - 1) + 4 ≤ s .args .n)
+place c =
+    let p = c .before .before .before .pre in
+    at-place (p .function .walking) (p .function .there) (p .fit (not-false _ (c .if1 .left)) .at) (c .before .before .before .args .f .base) (p .routine .base)
+
+-- the instruction that is read, where a state arrives
+move : (c : tie.After-instruction) → let s = c .before .before .before .before .before in MoveAsks (s .args .program .now) (s .args .n) (s .args .heads .now) (s .args .g) (s .args .i) (s .args .st) (c .instruction .result)
+move c =
+    let s = c .before .before .before .before .before in
+    let p = s .pre in
+    let v = not-false _ (c .before .before .if1 .left) in
+    record {
+      function = p .function;
+      visited = v;
+      fit = p .fit v;
+      is = at-instruction (p .function .walking) (p .function .there) (p .fit v .at) (s .args .f .base) (p .routine .base) (c .instruction .result) (c .instruction .ensures);
+    }
+
+as-is : {file : List ℕ} {n : ℕ} {heads : List ℕ} {g i : ℕ} {st : Saved} {x y : Instruction} → MoveAsks file n heads g i st x → x ≡ y → MoveAsks file n heads g i st y
+as-is m e = rw e at m
+
+add-stay : tie.Need-add-stay
+add-stay c = omega (arith, short (c .before .before))
+
+stay-requires : tie.Need-stay-requires
+stay-requires c κs = search needs
+
+returns : tie.Need-returns
+returns c = said-skipped (c .before .before .before .before .pre) (not-true _ (c .before .if1 .taken)) (c .stay .ensures)
+
+sub-instruction : tie.Need-sub-instruction
+sub-instruction c = omega (arith, c .before .before .before .pre .some-i)
+
+mul-instruction : tie.Need-mul-instruction
+mul-instruction c = omega (arith, short (c .before .before))
+
+add-instruction : tie.Need-add-instruction
+add-instruction c = let z = c .before .before .before .before .pre .function .walking .records .opened .small in omega (arith, place (c .before) .3)
+
+instruction-requires : tie.Need-instruction-requires
+instruction-requires c κs = (c .before .before .before .before .pre .function .walking .records .opened, place (c .before) .3)
+
+enum-known-ins : tie.Need-enum-known-ins
+enum-known-ins c = search needs
+
+wide-requires : tie.Need-wide-requires
+wide-requires c κs = search needs
+
+sub-load-variable : tie.Need-sub-load-variable
+sub-load-variable c = omega (arith, move-load-asks (as-is (move (c .before .before .before .before)) (c .before .before .ins .given .1)) .0, c .wide .ensures .0)
+
+load-variable-requires : tie.Need-load-variable-requires
+load-variable-requires c κs = let q = move-load-asks (as-is (move (c .before .before .before .before)) (c .before .before .ins .given .1)) in (q .2, omega (arith, q .0, q .1, c .wide .ensures .0), (move (c .before .before .before .before)) .fit .right .long)
+
+add-t22 : tie.Need-add-t22
+add-t22 c = omega (arith, short (c .before .before .before .before .before .before .before .before .before))
+
+unvisited-requires : tie.Need-unvisited-requires
+unvisited-requires c κs = search needs
+
+add-t24 : tie.Need-add-t24
+add-t24 c = omega (arith, short (c .before .before .before .before .before .before .before .before .before .before))
+
+enum-told : tie.Need-enum-told
+enum-told c = search needs
+
+line-move-requires : tie.Need-line-move-requires
+line-move-requires c κs = record { ins = Build (c .enum-told .given .0 .0); move = as-is (move (c .before .before)) (c .enum-told .given .1); makes = tt; routine = c .before .before .before .before .before .before .before .pre .routine }
+
+enum-told-2 : tie.Need-enum-told-2
+enum-told-2 c = search needs
+
+line-move-requires-2 : tie.Need-line-move-requires-2
+line-move-requires-2 c κs = record { ins = Call (c .enum-told2 .given .0 .0); move = as-is (move (c .before .before)) (c .enum-told2 .given .1); makes = tt; routine = c .before .before .before .before .before .before .before .pre .routine }
+
+enum-known-ins-2 : tie.Need-enum-known-ins-2
+enum-known-ins-2 c = search needs
+
+branch-requires : tie.Need-branch-requires
+branch-requires c κs = as-is (move (c .before .before .before)) (c .before .ins2 .given .1)
+
+enum-told-3 : tie.Need-enum-told-3
+enum-told-3 c = search needs
+
+add-stay-2 : tie.Need-add-stay-2
+add-stay-2 c = omega (arith, short (c .before .before .before .before .before .before))
+
+stay-requires-2 : tie.Need-stay-requires-2
+stay-requires-2 c κs = search needs
+
+enum-told-4 : tie.Need-enum-told-4
+enum-told-4 c = search needs
+
+add-stay-3 : tie.Need-add-stay-3
+add-stay-3 c = omega (arith, short (c .before .before .before .before .before .before))
+
+stay-requires-3 : tie.Need-stay-requires-3
+stay-requires-3 c κs = search needs
+
+returns-2 : tie.Need-returns-2
+returns-2 c = said-load (as-is (move (c .before .before .before .before .before .before)) (c .before .before .before .before .ins .given .1)) (c .before .before .wide .result - 1) (ap (λ (k : ℕ). k - 1) (c .before .before .wide .ensures .0)) (c .before .load-variable .result) (c .unvisited .result) (c .before .load-variable .ensures .0) (c .before .load-variable .ensures .1) (c .before .load-variable .ensures .2) (c .unvisited .ensures)
+
+returns-3 : tie.Need-returns-3
+returns-3 c = search needs
+
+returns-4 : tie.Need-returns-4
+returns-4 c = search needs
+
+returns-5 : tie.Need-returns-5
+returns-5 c = search needs
+
+returns-6 : tie.Need-returns-6
+unfolding shapeFrom
+returns-6 c = said-end (as-is (move (c .before .before .before)) (c .before .enum-told3 .given .1)) refl (c .stay2 .ensures)
+
+returns-7 : tie.Need-returns-7
+unfolding shapeFrom
+returns-7 c = said-end (as-is (move (c .before .before .before)) (c .before .enum-told4 .given .1)) refl (c .stay3 .ensures)
+
+pub step-spec : {M : Type 1} → statement M
+step-spec =
+    tie.close
+    (tie.spec
+    add-stay
+    stay-requires
+    returns
+    sub-instruction
+    mul-instruction
+    add-instruction
+    instruction-requires
+    enum-known-ins
+    wide-requires
+    sub-load-variable
+    load-variable-requires
+    add-t22
+    unvisited-requires
+    add-t24
+    enum-told
+    line-move-requires
+    enum-told-2
+    line-move-requires-2
+    enum-known-ins-2
+    branch-requires
+    enum-told-3
+    add-stay-2
+    stay-requires-2
+    enum-told-4
+    add-stay-3
+    stay-requires-3
+    returns-2
+    returns-3
+    returns-4
+    returns-5
+    returns-6
+    returns-7)

@@ -1,0 +1,12 @@
+pub mod Put
+pub mod Splits
+pub mod Forms
+pub mod States
+pub mod Right
+pub mod Steps
+pub mod Spare
+pub mod Chart
+pub mod Routines
+pub mod Left
+pub mod Walking
+pub mod Moves

@@ -1,0 +1,73 @@
+-- What the code reads of a function, a build and a call.
+use mathlib.Core.Path.{_≡_}
+use mathlib.Core.List.{List, [], _∷_}
+use mathlib.Core.Bool.{true, false}
+use Prim.Native.Nat.{ℕ, _+_, _≤_, _<_}
+use lib.ListN.{length, getD}
+use Rattle.rules.specs.declared.records.Instruction.{Instruction}
+use Rattle.rules.specs.declared.records.Instruction.the-variants.{Load, Build, Call, Branch, Return, Stop}
+use Rattle.rules.specs.Base.{byteAt, wordAt}
+use Rattle.rules.specs.Container.{payload}
+use Rattle.rules.specs.Records.{alternativeAt, constructorOffset, alternativeOffset, codeOffset, headOffset}
+use Rattle.rules.specs.Opened.{Opened, RecordsThere}
+use Rattle.sizing.specs.declared.forms.Bound.{Bound}
+use Rattle.sizing.specs.declared.routines.Routine.{Routine}
+use Rattle.sizing.specs.declared.routines.Maker.{Maker}
+use Rattle.sizing.specs.Forms.{noRow}
+
+pub record BoundAsks (file : List ℕ) (n at count : ℕ) : Type 0 where
+  pub opened : Opened file n
+  pub few : count ≤ 4
+  pub there : (k : ℕ) → k < count → alternativeOffset at k + 6 ≤ n
+
+-- the alternatives of the function whose head stands at an offset
+pub record BoundIs (bytes : List ℕ) (at count : ℕ) (b : Bound) : Type 0 where
+  pub count-is : b .count ≡ count
+  pub long : length (b .rows) ≡ 4
+  pub rows : (k : ℕ) → k < count → getD (b .rows) k noRow ≡ alternativeAt bytes (alternativeOffset at k)
+
+pub record RoutineIs (bytes : List ℕ) (at : ℕ) (r : Routine) : Type 0 where
+  pub arity : r .arity ≡ byteAt bytes (at + 1)
+  pub bound : BoundIs bytes at (byteAt bytes (at + 6)) (r .bound)
+  pub base : r .base ≡ codeOffset bytes at
+  pub last : r .last ≡ wordAt bytes (at + 8)
+
+pub record BuildIs (bytes : List ℕ) (c : ℕ) (m : Maker) : Type 0 where
+  pub makes : m .makes ≡ true
+  pub arity : m .arity ≡ byteAt bytes (constructorOffset c + 1)
+  pub one : m .bound .count ≡ 1
+  pub long : length (m .bound .rows) ≡ 4
+  pub row : getD (m .bound .rows) 0 noRow ≡ record { coefficients = 1 ∷ 1 ∷ 1 ∷ 1 ∷ []; constant = byteAt bytes (constructorOffset c + 6) }
+
+pub record CallIs (bytes : List ℕ) (at : ℕ) (m : Maker) : Type 0 where
+  pub makes : m .makes ≡ true
+  pub arity : m .arity ≡ byteAt bytes (at + 1)
+  pub bound : BoundIs bytes at (byteAt bytes (at + 6)) (m .bound)
+
+-- the constructor or function that an instruction names is there
+abbrev pub OperandThere : List ℕ → Instruction → Type 0
+OperandThere bytes (Load a) = Unit {0}
+OperandThere bytes (Build c) = c < byteAt bytes 2
+OperandThere bytes (Call g) = g < byteAt bytes 3
+OperandThere bytes (Branch c b) = c < byteAt bytes 2
+OperandThere bytes Return = Unit {0}
+OperandThere bytes Stop = Unit {0}
+
+-- records that are right, and the offsets of the function heads
+pub record Records (file : List ℕ) (n : ℕ) (heads : List ℕ) : Type 0 where
+  pub opened : Opened file n
+  pub there : RecordsThere (payload file)
+  pub few : byteAt (payload file) 3 ≤ 32
+  pub placed : (g : ℕ) → g < byteAt (payload file) 3 → getD heads g 0 ≡ headOffset (payload file) g
+
+pub record MakerAsks (file : List ℕ) (n : ℕ) (heads : List ℕ) (ins : Instruction) : Type 0 where
+  pub records : Records file n heads
+  pub operand : OperandThere (payload file) ins
+
+abbrev pub MakerIs : List ℕ → Instruction → Maker → Type 0
+MakerIs bytes (Load a) m = m .makes ≡ false
+MakerIs bytes (Build c) m = BuildIs bytes c m
+MakerIs bytes (Call g) m = CallIs bytes (headOffset bytes g) m
+MakerIs bytes (Branch c b) m = m .makes ≡ false
+MakerIs bytes Return m = m .makes ≡ false
+MakerIs bytes Stop m = m .makes ≡ false

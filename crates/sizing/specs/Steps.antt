@@ -1,0 +1,84 @@
+-- What the code's steps say, by the definitions.
+use mathlib.Core.Path.{_≡_}
+use mathlib.Core.List.{List, [], _∷_, _++_, map}
+use mathlib.Core.Bool.{Bool, true, false}
+use mathlib.Core.Option.{Option, none, some}
+use Prim.Native.Nat.{ℕ, zero, suc, _+_, _-_, _≤_, _<_}
+use lib.ListN.{length, take, getD}
+use Rattle.rules.specs.declared.records.Instruction.the-variants.{Branch}
+use Rattle.rules.specs.Base.{Tried, found, refused, refusal}
+use Rattle.rules.specs.Program.{constructor, Constructor, Function, Program, arity}
+use Rattle.rules.specs.Walk.{Arrow}
+use Rattle.rules.specs.Forms.{variableOnly}
+use Rattle.rules.specs.Shapes.{Shape, shapeFrom}
+use Rattle.sizing.specs.declared.splits.Split.{Split}
+use Rattle.sizing.specs.declared.paths.Saved.{Saved}
+use Rattle.sizing.specs.declared.paths.Branched.{Branched}
+use Rattle.rules.specs.declared.records.Alternative.{Alternative}
+use Rattle.rules.specs.declared.records.AlternativeRecord.{AlternativeRecord}
+use Rattle.sizing.specs.declared.forms.Form.{Form}
+use Rattle.sizing.specs.declared.forms.Bound.{Bound}
+use Rattle.sizing.specs.declared.splits.Splits.{Splits}
+use Rattle.sizing.specs.Put.{widened}
+use Rattle.sizing.specs.Forms.{formIn, FormRight, Single, noForm, noRow, BoundRight}
+use Rattle.sizing.specs.Splits.{noSplit, Whole, Carrying, carried}
+use Rattle.sizing.specs.States.{stackIn, splitsIn}
+use Rattle.sizing.specs.Right.{shapeIn, SavedRight}
+
+abbrev pub topOf : Saved → ℕ
+topOf st = getD (st .stack) (st .height - 1) 0
+
+pub record BranchAsks (st : Saved) (c parts : ℕ) : Type 0 where
+  pub some : 0 < st .height
+  pub high : st .height ≤ 16
+  pub fits : st .height + parts ≤ 17
+  pub few : st .taken ≤ 16
+  pub room : Whole (topOf st) (splitsIn st) → st .taken < 16
+  pub long : length (st .stack) ≡ 16
+  pub list : length (st .list) ≡ 16
+  pub count : st .count ≤ 16
+  pub each : (j : ℕ) → j < st .taken → getD (st .list) j noSplit .constructor ≡ c → (getD (st .list) j noSplit .parts ≡ parts) × (getD (st .list) j noSplit .first + parts ≤ 16)
+
+-- an arrow where the state is visited
+abbrev pub given : {A : Type 0} → Bool → A → List A → List A
+given true x xs = x ∷ xs
+given false x xs = xs
+
+abbrev pub arrowsOf : ℕ → ℕ → ℕ → Branched → List (Arrow Shape)
+arrowsOf n i b r = given (r .next .visited) (suc i, shapeIn n (r .next)) (given (r .other .visited) (b, shapeIn n (r .other)) [])
+
+pub record BranchSays (s : Program) (n : ℕ) (f : Function) (i b c parts : ℕ) (st : Saved) (r : Branched) : Type 0 where
+  pub large : r .large ≡ true → shapeFrom s n f i (Branch c b) (shapeIn (arity f) st) ≡ refused (refusal 9 n i)
+  pub goes : r .large ≡ false → shapeFrom s n f i (Branch c b) (shapeIn (arity f) st) ≡ found (arrowsOf (arity f) i b r)
+  pub next : r .next .visited ≡ true → SavedRight s f (r .next) × (r .next .height ≡ st .height - 1 + parts)
+  pub other : r .other .visited ≡ true → SavedRight s f (r .other) × (r .other .height ≡ st .height)
+
+-- for every program that the state stands for
+abbrev pub Branching : Saved → ℕ → ℕ → ℕ → Branched → Type 0
+Branching st c parts weight r =
+    (s : Program) (n : ℕ) (f : Function) (i b : ℕ) (k : Constructor) → SavedRight s f st → st .visited ≡ true → constructor s c ≡ some k → parts ≡ length (k .arguments) → weight ≡ k .weight
+    → BranchSays s n f i b c parts st r
+
+-- each variable of the stack can be taken through the splits
+pub record FormsAsks (st : Saved) : Type 0 where
+  pub high : st .height ≤ 16
+  pub small : (i : ℕ) → i < st .height → getD (st .stack) i 0 < 16
+  pub carrying : (i : ℕ) → i < st .height → Carrying (variableOnly (getD (st .stack) i 0)) (st .taken) (st .list)
+
+-- each variable's form after the splits
+pub record FormsAre (st : Saved) (r : List Form) : Type 0 where
+  pub long : length r ≡ 20
+  pub each : (i : ℕ) → i < st .height → Single (getD r i noForm) (carried (splitsIn st) (variableOnly (getD (st .stack) i 0)))
+
+-- a row of a bound at the parameters, before the splits
+abbrev pub ownRow : AlternativeRecord → Alternative
+ownRow row = widened 0 (row .coefficients) (row .constant)
+
+pub record OwnAsks (b : Bound) (s : Splits) : Type 0 where
+  pub bound : BoundRight b
+  pub carrying : (i : ℕ) → i < b .count → Carrying (ownRow (getD (b .rows) i noRow)) (s .taken) (s .list)
+
+pub record OwnIs (b : Bound) (s : Splits) (x : Form) : Type 0 where
+  pub right : FormRight x
+  pub count : x .count ≡ b .count
+  pub same : formIn x ≡ map (λ row. carried (take (s .taken) (s .list)) (ownRow row)) (take (b .count) (b .rows))
