@@ -1,0 +1,136 @@
+-- The index is filled entry by entry: what a store adds, and what it keeps.
+use mathlib.Core.Path.{_≡_, refl, sym, ap, _∙_}
+use mathlib.Core.List.{List}
+use Prim.Native.Nat.{ℕ, _+_, _*_, _≤_, _<_}
+use native.Mathlib.Omega.{arith}
+use borrow.Author.Count.{below-more}
+use lib.ListN.{length, getD, set, length-set}
+use lib.Seq.{getD-set-same, getD-set-other}
+use native.Mathlib.Nat.{le-trans}
+use mathlib.Core.Bool.{Bool, true, _&&_}
+use lib.Dec.{leb, eqb}
+use borrow.Author.Tests.{leb-true}
+use Rattle.rules.proofs.ListLaws.{and-left, and-right}
+use Rattle.rules.specs.declared.records.Header.{Header}
+use Rattle.rules.specs.declared.records.HeadRecord.{HeadRecord}
+use Rattle.rules.specs.Base.{byteAt, wordAt, within}
+use Rattle.rules.specs.Container.{payload}
+use Rattle.rules.specs.Records.{constructorOffset, headOffset, codeOffset, headAt, headerRight}
+use Rattle.rules.specs.Opened.{Opened, OpenedProgram}
+use Rattle.rules.proofs.RecordLaws.{records-there}
+use Rattle.program.proofs.LayoutLaws.{constructors-count, functions-count, functions-few, constructor-there, head-placed, function-placed}
+use Rattle.machine.specs.Indexed.{FunctionIndexed, Indexed}
+use Rattle.machine.specs.Indexing.{Constructing, Constructed, Functioned, functionPut}
+
+-- a store elsewhere keeps an entry
+kept : (index : List ℕ) (i j v : ℕ) → (j ≡ i → ⊥) → getD (set index i v) j 0 ≡ getD index j 0
+kept index i j v h = getD-set-other index i j v 0 h
+
+module _ {file : List ℕ} {n : ℕ} where
+  pub constructed-first : {index : List ℕ} → length index ≡ 161 → getD index 160 0 ≡ n → Constructed file n 0 index
+  constructed-first l e = record { wide = l; long = e; constructor = λ c h. absurd (omega arith) }
+
+  pub constructed-next : {c v : ℕ} {index : List ℕ} → Constructed file n c index → c < 64 → v ≡ byteAt (payload file) (constructorOffset c + 1) → Constructed file n (c + 1) (set index c v)
+  constructed-next {c} {v} {index} k l e = record {
+    wide = length-set index c v ∙ k .wide;
+    long = kept index c 160 v (λ z. omega arith) ∙ k .long;
+    constructor = below-more _ _ (λ j h. kept index c j v (λ z. omega arith) ∙ k .constructor j h) (getD-set-same index c v 0 (omega (arith, k .wide)) ∙ e);
+  }
+
+  pub constructed-end : {c count : ℕ} {index : List ℕ} → Constructed file n c index → c ≤ count → count ≤ c → Constructed file n count index
+  constructed-end {c} {count} k lo hi = let e : c ≡ count = omega arith in rw e at k
+
+  -- the three entries of function f, whose head stands at an offset
+  module _ {constructors f a b d : ℕ} {index : List ℕ} (k : Functioned file n constructors f index) (few : constructors ≤ 64) (l : f < 32)
+      (ea : a ≡ byteAt (payload file) (headOffset (payload file) f + 1)) (eb : b ≡ codeOffset (payload file) (headOffset (payload file) f)) (ed : d ≡ wordAt (payload file) (headOffset (payload file) f + 8)) where
+    abbrev first : List ℕ
+    first = set index (64 + f) a
+
+    abbrev second : List ℕ
+    second = set first (96 + f) b
+
+    abbrev third : List ℕ
+    third = set second (128 + f) d
+
+    still : (j : ℕ) → (j ≡ 64 + f → ⊥) → (j ≡ 96 + f → ⊥) → (j ≡ 128 + f → ⊥) → getD third j 0 ≡ getD index j 0
+    still j p q r = kept second (128 + f) j d r ∙ kept first (96 + f) j b q ∙ kept index (64 + f) j a p
+
+    wide-first : length first ≡ 161
+    wide-first = length-set index (64 + f) a ∙ k .constructed .wide
+
+    wide-second : length second ≡ 161
+    wide-second = length-set first (96 + f) b ∙ wide-first
+
+    pub functioned-next : Functioned file n constructors (f + 1) third
+    functioned-next = record {
+      constructed = record {
+        wide = length-set second (128 + f) d ∙ wide-second;
+        long = still 160 (λ z. omega arith) (λ z. omega arith) (λ z. omega arith) ∙ k .constructed .long;
+        constructor = λ c h. still c (λ z. omega arith) (λ z. omega arith) (λ z. omega arith) ∙ k .constructed .constructor c h;
+      };
+      function = below-more _ _ before here;
+    }
+      where
+        before : (g : ℕ) → g < f → FunctionIndexed (payload file) third g
+        before g h = record {
+          arity = still (64 + g) (λ z. omega arith) (λ z. omega arith) (λ z. omega arith) ∙ k .function g h .arity;
+          code = still (96 + g) (λ z. omega arith) (λ z. omega arith) (λ z. omega arith) ∙ k .function g h .code;
+          instructions = still (128 + g) (λ z. omega arith) (λ z. omega arith) (λ z. omega arith) ∙ k .function g h .instructions;
+        }
+
+        here : FunctionIndexed (payload file) third f
+        here = record {
+          arity = kept second (128 + f) (64 + f) d (λ z. omega arith) ∙ kept first (96 + f) (64 + f) b (λ z. omega arith) ∙ getD-set-same index (64 + f) a 0 (omega (arith, k .constructed .wide)) ∙ ea;
+          code = kept second (128 + f) (96 + f) d (λ z. omega arith) ∙ getD-set-same first (96 + f) b 0 (omega (arith, wide-first)) ∙ eb;
+          instructions = getD-set-same second (128 + f) d 0 (omega (arith, wide-second)) ∙ ed;
+        }
+
+---- Of an opened program
+
+few-constructors : (h : Header) → headerRight h ≡ true → h .constructors ≤ 64
+unfolding headerRight
+few-constructors h e =
+    let first : Bool = eqb (h .edition) 1 && within 1 32 (h .types) in
+    let c = and-right first (within 1 64 (h .constructors)) (and-left (first && within 1 64 (h .constructors)) (within 1 32 (h .functions)) e) in
+    leb-true _ _ (and-right (leb 1 (h .constructors)) (leb (h .constructors) 64) c)
+
+module _ {file : List ℕ} {n : ℕ} {h : Header} {heads : List ℕ} (o : OpenedProgram file n h heads) where
+  constructors-few : h .constructors ≤ 64
+  constructors-few = few-constructors h (ap headerRight (o .header) ∙ records-there (payload file) (o .right) .header-right)
+
+  pub constructing : Constructing file n (h .constructors)
+  constructing = record { opened = o .opened; few = constructors-few; there = λ c l. constructor-there o c l .0 }
+
+  -- the number of constructors as the payload has it
+  abbrev count : ℕ
+  count = byteAt (payload file) 2
+
+  pub functioned-first : {index : List ℕ} → Constructed file n (h .constructors) index → Functioned file n count 0 index
+  functioned-first k = record { constructed = rw (constructors-count o) at k; function = λ f l. absurd (omega arith) }
+
+  -- function f, with its head as it was read where the table says
+  pub functioned-on : {f at : ℕ} {index : List ℕ} {r : HeadRecord} → Functioned file n count f index → f < h .functions → at ≡ getD heads f 0 → r ≡ headAt (payload file) at
+      → Functioned file n count (f + 1) (functionPut index f at r)
+  functioned-on {f} {at} k l e q =
+      let place : at ≡ headOffset (payload file) f = e ∙ head-placed o f l in
+      functioned-next k (omega (arith, constructors-few, constructors-count o)) (le-trans l (functions-few o))
+      (ap (λ (x : HeadRecord). x .declaration .arity) q ∙ ap (λ (x : ℕ). byteAt (payload file) (x + 1)) place)
+      (ap (λ (x : HeadRecord). at + 10 + 6 * x .alternatives) q ∙ ap (λ (x : ℕ). codeOffset (payload file) x) place)
+      (ap (λ (x : HeadRecord). x .instructions) q ∙ ap (λ (x : ℕ). wordAt (payload file) (x + 8)) place)
+
+  pub functioned-end : {f : ℕ} {index : List ℕ} → Functioned file n count f index → f ≤ h .functions → h .functions ≤ f → Functioned file n (h .constructors) (h .functions) index
+  functioned-end {f} k lo hi =
+      let e : f ≡ h .functions = omega arith in
+      rw (constructors-count o) (rw e at k)
+
+  -- its head is all there
+  pub head-there : (f at : ℕ) → f < h .functions → at ≡ getD heads f 0 → at + 10 ≤ n
+  head-there f at l e = omega (arith, function-placed o f l .head, o .opened .long)
+
+  pub indexed : {index : List ℕ} → Functioned file n (h .constructors) (h .functions) index → Indexed file index
+  indexed {index} k = record {
+    opened = rw (k .constructed .long) (o .opened);
+    right = o .right;
+    constructor = λ c l. k .constructed .constructor c (rw (constructors-count o) l);
+    function = λ f l. k .function f (rw (functions-count o) l);
+  }

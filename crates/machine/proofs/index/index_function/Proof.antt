@@ -1,0 +1,77 @@
+-- `index_function` meets its contract: three stores.
+use borrow.Author.Needs.{needs}
+use Rattle.machine.proofs.index.index_function.Statement.{statement}
+use Rattle.machine.proofs.index.index_function.Tie as tie
+
+add-code : tie.Need-add-code
+add-code c = search needs
+
+wide-requires : tie.Need-wide-requires
+wide-requires c κs = search needs
+
+mul-code : tie.Need-mul-code
+mul-code c = search needs
+
+add-code-2 : tie.Need-add-code-2
+add-code-2 c = search needs
+
+cast-r : tie.Need-cast-r
+cast-r c = search needs
+
+add-r : tie.Need-add-r
+add-r c = search needs
+
+mul-r : tie.Need-mul-r
+mul-r c = search needs
+
+array-write-r : tie.Need-array-write-r
+array-write-r c = search needs
+
+cast-r-2 : tie.Need-cast-r-2
+cast-r-2 c = search needs
+
+add-r-2 : tie.Need-add-r-2
+add-r-2 c = search needs
+
+mul-r-2 : tie.Need-mul-r-2
+mul-r-2 c = search needs
+
+array-write-r-2 : tie.Need-array-write-r-2
+array-write-r-2 c = search needs
+
+cast-r-3 : tie.Need-cast-r-3
+cast-r-3 c = search needs
+
+add-r-3 : tie.Need-add-r-3
+add-r-3 c = search needs
+
+mul-r-3 : tie.Need-mul-r-3
+mul-r-3 c = search needs
+
+array-write-r-3 : tie.Need-array-write-r-3
+array-write-r-3 c = search needs
+
+returns : tie.Need-returns
+returns c = cc
+
+pub index-function-spec : {M : Type 1} → statement M
+index-function-spec =
+    tie.close
+    (tie.spec
+    add-code
+    wide-requires
+    mul-code
+    add-code-2
+    cast-r
+    add-r
+    mul-r
+    array-write-r
+    cast-r-2
+    add-r-2
+    mul-r-2
+    array-write-r-2
+    cast-r-3
+    add-r-3
+    mul-r-3
+    array-write-r-3
+    returns)

@@ -1,0 +1,34 @@
+-- With no step left, only a return in the only frame is an end; all else is out of steps.
+use Prim.Native.Nat.{_-_}
+use mathlib.Core.Path.{sym, ap, _∙_}
+use mathlib.Core.Option.{some}
+use Rattle.machine.proofs.ReturnLaws.{spent-is, other-goes, waits-on, return-is}
+use Rattle.machine.proofs.LoopLaws.{alive-current}
+use Rattle.machine.proofs.TurnLaws.{alive-now}
+use Rattle.machine.proofs.FrameLaws.{spared-refl}
+use borrow.Author.Needs.{needs}
+use Rattle.machine.proofs.run.spent.Statement.{statement}
+use Rattle.machine.proofs.run.spent.Tie as tie
+
+instruction-requires : tie.Need-instruction-requires
+instruction-requires c κs = (c .before .before .before .before .before .pre .1 .1, alive-current _ _ (alive-now _ _ (c .before .before .before .before .before .args .budget) _ _ _ _ (c .before .before .before .before .before .pre .0)))
+
+returns-requires : tie.Need-returns-requires
+returns-requires c κs = search needs
+
+finish-requires : tie.Need-finish-requires
+finish-requires c κs = (c .before .before .before .before .before .before .before .before .before .before .pre .0, (record { is = c .before .before .before .before .instruction .ensures .0 ∙ ap some (return-is _ (sym (c .before .returns .ensures) ∙ c .if2 .taken)) }, c .before .before .if1 .taken))
+
+returns : tie.Need-returns
+returns c = search needs
+
+returns-2 : tie.Need-returns-2
+returns-2 c = record { answer-is = spent-is _ _ _ _ _ _ (c .before .before .before .before .before .before .before .before .before .before .args .budget) (c .before .before .before .before .before .before .before .before .before .before .pre .0) (c .before .before .before .before .before .before .before .before .before .before .pre .1 .0) (other-goes _ _ _ _ _ _ (c .before .before .before .before .before .before .before .before .before .before .args .budget) (c .before .before .before .before .before .before .before .before .before .before .pre .0) _ (c .before .before .before .before .instruction .ensures .0) (sym (c .before .returns .ensures) ∙ c .if2 .left)); writable = tt; spared = spared-refl _ _ _ _ }
+
+returns-3 : tie.Need-returns-3
+returns-3 c = record { answer-is = spent-is _ _ _ _ _ _ (c .before .before .before .before .before .before .before .before .args .budget) (c .before .before .before .before .before .before .before .before .pre .0) (c .before .before .before .before .before .before .before .before .pre .1 .0) (waits-on _ _ _ _ _ _ (c .before .before .before .before .before .before .before .before .args .budget) (c .before .before .before .before .before .before .before .before .pre .0) (c .if1 .left)); writable = tt; spared = spared-refl _ _ _ _ }
+
+pub spent-spec : {M : Type 1} → statement M
+spent-spec =
+    tie.close
+    (tie.spec instruction-requires returns-requires finish-requires returns returns-2 returns-3)
