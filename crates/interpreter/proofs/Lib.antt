@@ -1,0 +1,6 @@
+pub mod FinishLaws
+pub mod BeginLaws
+pub mod LoadLaws
+pub mod RunningLaws
+pub mod CallLaws
+pub mod Promise
