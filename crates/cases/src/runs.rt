@@ -1,0 +1,231 @@
+// The command run: what it asks for, and the tables that it lends.
+use crate::answers;
+use crate::hex;
+use crate::hex::Decoded;
+use crate::tables;
+use crate::words;
+use crate::words::Number;
+use crate::words::Span;
+use crate::words::Words;
+
+// The lengths of the lent tables and output.
+struct Sizes {
+    cells: usize,
+    stack: usize,
+    frames: usize,
+    out: usize,
+}
+
+enum Sized {
+    By(Sizes),
+    Bad,
+}
+
+// A call: where its bytes stand in the line, and its numbers.
+struct Call {
+    program: Span,
+    entry: u32,
+    arguments: Span,
+    budget: u32,
+}
+
+enum Called {
+    With(Call),
+    Bad,
+}
+
+fn read_sizes(line: &[u8], words: Words) -> Sized {
+    let Number::Of(cells) = words::number_at(line, words, 5) else {
+        return Sized::Bad;
+    };
+    let Number::Of(stack) = words::number_at(line, words, 6) else {
+        return Sized::Bad;
+    };
+    let Number::Of(frames) = words::number_at(line, words, 7) else {
+        return Sized::Bad;
+    };
+    let Number::Of(out) = words::number_at(line, words, 8) else {
+        return Sized::Bad;
+    };
+    Sized::By(Sizes {
+        cells: cells as usize,
+        stack: stack as usize,
+        frames: 3 * (frames as usize),
+        out: out as usize,
+    })
+}
+
+fn read_call(line: &mut [u8], words: Words) -> Called {
+    let Number::Of(entry) = words::number_at(line, words, 2) else {
+        return Called::Bad;
+    };
+    let Number::Of(budget) = words::number_at(line, words, 4) else {
+        return Called::Bad;
+    };
+    let Decoded::Bytes(program) = hex::decode(line, words::word(words, 1)) else {
+        return Called::Bad;
+    };
+    let Decoded::Bytes(arguments) = hex::decode(line, words::word(words, 3)) else {
+        return Called::Bad;
+    };
+    Called::With(Call {
+        program: program,
+        entry: entry,
+        arguments: arguments,
+        budget: budget,
+    })
+}
+
+fn run(
+    line: &[u8],
+    call: Call,
+    cells: &mut [u16],
+    stack: &mut [u16],
+    frames: &mut [u16],
+    out: &mut [u8],
+) {
+    let answer = interpreter::run(
+        words::part(line, call.program),
+        call.entry,
+        words::part(line, call.arguments),
+        call.budget,
+        cells,
+        stack,
+        frames,
+        out,
+    );
+    answers::ran(answer, tables::found(cells, stack, frames), out);
+}
+
+// The tables stand on the native stack, most of which the writing of a deep result takes. So there are three sizes of them: for
+// most calls; 65,535 cells with few frames, which leaves room for a result of 65,535 levels; and the longest. Each answers false,
+// and does nothing, where a table is too short.
+
+fn run_small(line: &[u8], call: Call, sizes: Sizes) -> bool {
+    let cells = sizes.cells;
+    let stack = sizes.stack;
+    let frames = sizes.frames;
+    let out = sizes.out;
+    if 4096 < cells {
+        return false;
+    }
+    if 1024 < stack {
+        return false;
+    }
+    if 768 < frames {
+        return false;
+    }
+    if 4096 < out {
+        return false;
+    }
+    let mut lent_cells = [tables::NUMBER; 4096];
+    let mut lent_stack = [tables::NUMBER; 1024];
+    let mut lent_frames = [tables::NUMBER; 768];
+    let mut lent_out = [tables::BYTE; 4096];
+    run(
+        line,
+        call,
+        &mut lent_cells[0..cells],
+        &mut lent_stack[0..stack],
+        &mut lent_frames[0..frames],
+        &mut lent_out[0..out],
+    );
+    true
+}
+
+fn run_deep(line: &[u8], call: Call, sizes: Sizes) -> bool {
+    let cells = sizes.cells;
+    let stack = sizes.stack;
+    let frames = sizes.frames;
+    let out = sizes.out;
+    if 327680 < cells {
+        return false;
+    }
+    if 8192 < stack {
+        return false;
+    }
+    if 12288 < frames {
+        return false;
+    }
+    if 70000 < out {
+        return false;
+    }
+    let mut lent_cells = [tables::NUMBER; 327680];
+    let mut lent_stack = [tables::NUMBER; 8192];
+    let mut lent_frames = [tables::NUMBER; 12288];
+    let mut lent_out = [tables::BYTE; 70000];
+    run(
+        line,
+        call,
+        &mut lent_cells[0..cells],
+        &mut lent_stack[0..stack],
+        &mut lent_frames[0..frames],
+        &mut lent_out[0..out],
+    );
+    true
+}
+
+fn run_large(line: &[u8], call: Call, sizes: Sizes) -> bool {
+    let cells = sizes.cells;
+    let stack = sizes.stack;
+    let frames = sizes.frames;
+    let out = sizes.out;
+    if 700000 < cells {
+        return false;
+    }
+    if 80000 < stack {
+        return false;
+    }
+    if 210000 < frames {
+        return false;
+    }
+    if 70000 < out {
+        return false;
+    }
+    let mut lent_cells = [tables::NUMBER; 700000];
+    let mut lent_stack = [tables::NUMBER; 80000];
+    let mut lent_frames = [tables::NUMBER; 210000];
+    let mut lent_out = [tables::BYTE; 70000];
+    run(
+        line,
+        call,
+        &mut lent_cells[0..cells],
+        &mut lent_stack[0..stack],
+        &mut lent_frames[0..frames],
+        &mut lent_out[0..out],
+    );
+    true
+}
+
+// The smallest tables that are long enough, of the first so many sizes. A loop over the sizes would do, but then the compiler
+// makes one frame of all of them; it keeps large frames out of a function that calls itself.
+fn run_within(line: &[u8], call: Call, sizes: Sizes, tries: usize) -> bool {
+    if tries == 0 {
+        return false;
+    }
+    if run_within(line, call, sizes, tries - 1) {
+        return true;
+    }
+    if tries == 1 {
+        return run_small(line, call, sizes);
+    }
+    if tries == 2 {
+        return run_deep(line, call, sizes);
+    }
+    run_large(line, call, sizes)
+}
+
+pub fn run_line(line: &mut [u8], words: Words) {
+    let Sized::By(sizes) = read_sizes(line, words) else {
+        answers::bad_command();
+        return;
+    };
+    let Called::With(call) = read_call(line, words) else {
+        answers::bad_command();
+        return;
+    };
+    if run_within(line, call, sizes, 3) {
+        return;
+    }
+    answers::bad_command();
+}
