@@ -1,48 +1,36 @@
+-- `check_code` meets its contract: the first pass that refuses gives the refusal, and where none does the program is accepted.
 use Rattle.verifier.proofs.ExamineLaws.{flow-refused, flows, types-refused, sizes-ask, sizes-told}
 use borrow.Author.Needs.{needs}
 use Rattle.verifier.proofs.check_code.Statement.{statement}
 use Rattle.verifier.proofs.check_code.Tie as tie
-use Rattle.verifier.proofs.check_code.Reads as reads
-use Rattle.verifier.proofs.check_code.Lts as lts
-use Rattle.sizing.proofs.sizes.Reads as sizes-reads
-use Rattle.typing.proofs.flows.Reads as flows-reads
-use Rattle.typing.proofs.types.Reads as types-reads
 
--- src/lib.rt:120:9
 flows-requires : tie.Need-flows-requires
 flows-requires c κs = search needs
 
--- src/lib.rt:121:29
 enum-known-flow : tie.Need-enum-known-flow
 enum-known-flow c = search needs
 
--- src/lib.rt:122:9
 returns : tie.Need-returns
 returns c = flow-refused (c .before .before .before .before .before .before .before .before .pre) (c .before .before .before .flows .ensures) _ (c .before .flow .given .1)
 
 enum-told : tie.Need-enum-told
 enum-told c = search needs
 
--- src/lib.rt:124:9
 types-requires : tie.Need-types-requires
 types-requires c κs = (c .before .before .before .before .before .before .before .before .pre .opened, flows (c .before .before .before .before .before .before .before .before .pre) (c .before .before .before .flows .ensures) (c .before .enum-told .given .1))
 
--- src/lib.rt:125:29
 enum-known-types : tie.Need-enum-known-types
 enum-known-types c = search needs
 
--- src/lib.rt:126:9
 returns-2 : tie.Need-returns-2
 returns-2 c = types-refused (c .before .before .before .before .before .before .before .before .before .before .before .before .pre) (c .before .before .before .before .before .before .before .flows .ensures) (c .before .before .before .before .before .enum-told .given .1) (c .before .before .before .types .ensures) _ (c .before .types2 .given .1)
 
 enum-told-2 : tie.Need-enum-told-2
 enum-told-2 c = search needs
 
--- src/lib.rt:128:5
 sizes-requires : tie.Need-sizes-requires
 sizes-requires c κs = sizes-ask (c .before .before .before .before .before .before .before .before .before .before .before .before .pre) (c .before .before .before .before .before .before .before .flows .ensures) (c .before .before .before .before .before .enum-told .given .1) (c .before .before .before .types .ensures) (c .before .enum-told2 .given .1)
 
--- src/lib.rt:113:1
 returns-3 : tie.Need-returns-3
 returns-3 c = sizes-told (c .before .before .before .before .before .before .before .before .before .before .before .before .before .pre) (c .before .before .before .before .before .before .before .before .flows .ensures) (c .before .before .before .before .before .before .enum-told .given .1) (c .before .before .before .before .types .ensures) (c .before .before .enum-told2 .given .1) (c .sizes .ensures)
 

@@ -1,39 +1,28 @@
+-- `examine` meets its contract: the blocks first, then the payload.
 use Rattle.blocks.proofs.OpenLaws.{verified-opened, verified-refused}
 use Rattle.verifier.proofs.ExamineLaws.{not-verified, refused-examined}
 use borrow.Author.Needs.{needs}
 use Rattle.verifier.proofs.examine.Statement.{statement}
 use Rattle.verifier.proofs.examine.Tie as tie
-use Rattle.verifier.proofs.examine.Reads as reads
-use Rattle.verifier.proofs.examine.Lts as lts
-use Rattle.blocks.proofs.verify.Reads as verify-reads
-use Rattle.verifier.proofs.examine_payload.Reads as examine-payload-reads
-use Rattle.verifier.proofs.refused.Reads as refused-reads
 
--- src/lib.rt:34:9
 verify-requires : tie.Need-verify-requires
 verify-requires c κs = search needs
 
--- src/lib.rt:36:23
 enum-known-verified : tie.Need-enum-known-verified
 enum-known-verified c = search needs
 
--- src/lib.rt:36:29
 examine-payload-requires : tie.Need-examine-payload-requires
 examine-payload-requires c κs = verified-opened (c .before .before .before .before .before .args .program .now) (c .before .before .before .verify .ensures) (c .before .verified .given .1)
 
--- src/lib.rt:37:25
 enum-known-verified-2 : tie.Need-enum-known-verified-2
 enum-known-verified-2 c = search needs
 
--- src/lib.rt:37:36
 refused-requires : tie.Need-refused-requires
 refused-requires c κs = search needs
 
--- src/lib.rt:31:1
 returns : tie.Need-returns
 returns c = search needs
 
--- src/lib.rt:31:1
 returns-2 : tie.Need-returns-2
 returns-2 c = refused-examined (c .refused .ensures) (not-verified (c .before .before .before .before .before .before .args .program .now) (c .before .before .verified2 .given .0 .0) (verified-refused (c .before .before .before .before .before .before .args .program .now) (c .before .before .before .before .verify .ensures) (c .before .before .verified2 .given .1)))
 

@@ -17,9 +17,6 @@ use Rattle.sizing.proofs.RightLaws.{form-length, form-at, form-wide}
 use borrow.Author.Needs.{needs}
 use Rattle.sizing.proofs.cover.covered_by.Statement.{statement}
 use Rattle.sizing.proofs.cover.covered_by.Tie as tie
-use Rattle.sizing.proofs.cover.covered_by.Reads as reads
-use Rattle.sizing.proofs.cover.covered_by.Lts as lts
-use Rattle.sizing.proofs.cover.some_matches.Reads as some-matches-reads
 
 -- an alternative that the bound matches
 abbrev in-bound : Form → Alternative → Bool

@@ -8,8 +8,6 @@ use Prim.Native.Nat.{ℕ, _≤_, _<_, _+_, _-_, _*_}
 use borrow.Author.Needs.{needs}
 use Rattle.sizing.proofs.cover.matched_by.Statement.{statement}
 use Rattle.sizing.proofs.cover.matched_by.Tie as tie
-use Rattle.sizing.proofs.cover.matched_by.Reads as reads
-use Rattle.sizing.proofs.cover.matched_by.Lts as lts
 
 abbrev Inv-loop : tie.InvT-loop
 Inv-loop a b i₀ i = (i ≤ 16) × (matches a b ≡ atMost (drop i (a .coefficients)) (drop i (b .coefficients)))

@@ -13,9 +13,6 @@ use Rattle.sizing.proofs.RightLaws.{form-length, form-at, form-wide}
 use borrow.Author.Needs.{needs}
 use Rattle.sizing.proofs.cover.some_matches.Statement.{statement}
 use Rattle.sizing.proofs.cover.some_matches.Tie as tie
-use Rattle.sizing.proofs.cover.some_matches.Reads as reads
-use Rattle.sizing.proofs.cover.some_matches.Lts as lts
-use Rattle.sizing.proofs.cover.matched_by.Reads as matched-by-reads
 
 abbrev Inv-loop : tie.InvT-loop
 Inv-loop a bound n i₀ i = (i ≤ n) × (any (matches a) (formIn bound) ≡ any (matches a) (drop i (formIn bound)))

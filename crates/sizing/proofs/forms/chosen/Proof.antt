@@ -7,10 +7,6 @@ use Rattle.sizing.proofs.ChoiceLaws.{Choosing, choosing-start, choice-f
 use borrow.Author.Needs.{needs}
 use Rattle.sizing.proofs.forms.chosen.Statement.{statement}
 use Rattle.sizing.proofs.forms.chosen.Tie as tie
-use Rattle.sizing.proofs.forms.chosen.Reads as reads
-use Rattle.sizing.proofs.forms.chosen.Lts as lts
-use Rattle.sizing.proofs.forms.no_form.Reads as no-form-reads
-use Rattle.sizing.proofs.forms.plus.Reads as plus-reads
 
 abbrev Inv-loop : tie.InvT-loop
 Inv-loop m form rest x₀ k n i₀ x i = (i ≤ n) × Choosing m form rest i x

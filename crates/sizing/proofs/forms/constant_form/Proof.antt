@@ -6,8 +6,6 @@ use Rattle.rules.specs.Forms.{constantOnly}
 use borrow.Author.Needs.{needs}
 use Rattle.sizing.proofs.forms.constant_form.Statement.{statement}
 use Rattle.sizing.proofs.forms.constant_form.Tie as tie
-use Rattle.sizing.proofs.forms.constant_form.Reads as reads
-use Rattle.sizing.proofs.forms.constant_form.Lts as lts
 
 returns : tie.Need-returns
 unfolding constantOnly

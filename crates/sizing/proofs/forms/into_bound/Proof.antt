@@ -8,11 +8,6 @@ use Prim.Native.Nat.{ℕ, _≤_, _<_, _+_, _-_, _*_}
 use borrow.Author.Needs.{needs}
 use Rattle.sizing.proofs.forms.into_bound.Statement.{statement}
 use Rattle.sizing.proofs.forms.into_bound.Tie as tie
-use Rattle.sizing.proofs.forms.into_bound.Reads as reads
-use Rattle.sizing.proofs.forms.into_bound.Lts as lts
-use Rattle.sizing.proofs.forms.joined.Reads as joined-reads
-use Rattle.sizing.proofs.forms.no_form.Reads as no-form-reads
-use Rattle.sizing.proofs.forms.substitute.Reads as substitute-reads
 
 abbrev Inv-loop : tie.InvT-loop
 Inv-loop n arguments bound k x₀ i₀ x i = (i ≤ k) × Joining n bound (argumentsIn arguments n) i x

@@ -13,8 +13,6 @@ use mathlib.Core.List.{append-nil}
 use borrow.Author.Needs.{needs}
 use Rattle.sizing.proofs.forms.joined.Statement.{statement}
 use Rattle.sizing.proofs.forms.joined.Tie as tie
-use Rattle.sizing.proofs.forms.joined.Reads as reads
-use Rattle.sizing.proofs.forms.joined.Lts as lts
 
 abbrev Inv-loop : tie.InvT-loop
 Inv-loop y start n x₀ i₀ x i =

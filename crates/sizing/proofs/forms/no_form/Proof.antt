@@ -5,8 +5,6 @@ use Rattle.rules.specs.Lists.{l[]}
 use borrow.Author.Needs.{needs}
 use Rattle.sizing.proofs.forms.no_form.Statement.{statement}
 use Rattle.sizing.proofs.forms.no_form.Tie as tie
-use Rattle.sizing.proofs.forms.no_form.Reads as reads
-use Rattle.sizing.proofs.forms.no_form.Lts as lts
 
 returns : tie.Need-returns
 returns c = (record { few = omega arith; long = refl; wide = l[] }, refl)

@@ -12,8 +12,6 @@ use Rattle.sizing.proofs.BuildLaws.{Plus, plus-next, plus-end}
 use borrow.Author.Needs.{needs}
 use Rattle.sizing.proofs.forms.plus.Statement.{statement}
 use Rattle.sizing.proofs.forms.plus.Tie as tie
-use Rattle.sizing.proofs.forms.plus.Reads as reads
-use Rattle.sizing.proofs.forms.plus.Lts as lts
 
 abbrev Inv-loop : tie.InvT-loop
 Inv-loop m b a r₀ i₀ r i = (i ≤ 16) × Plus m b a i r

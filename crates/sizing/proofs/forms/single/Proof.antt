@@ -18,9 +18,6 @@ use Rattle.sizing.proofs.ListLaws.{take-stored}
 use borrow.Author.Needs.{needs}
 use Rattle.sizing.proofs.forms.single.Statement.{statement}
 use Rattle.sizing.proofs.forms.single.Tie as tie
-use Rattle.sizing.proofs.forms.single.Reads as reads
-use Rattle.sizing.proofs.forms.single.Lts as lts
-use Rattle.sizing.proofs.forms.no_form.Reads as no-form-reads
 
 no-form-requires : tie.Need-no-form-requires
 no-form-requires c κs = search needs

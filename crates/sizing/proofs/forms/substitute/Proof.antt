@@ -6,10 +6,6 @@ use Rattle.sizing.proofs.SubstLaws.{Substituting, substituting-start, s
 use borrow.Author.Needs.{needs}
 use Rattle.sizing.proofs.forms.substitute.Statement.{statement}
 use Rattle.sizing.proofs.forms.substitute.Tie as tie
-use Rattle.sizing.proofs.forms.substitute.Reads as reads
-use Rattle.sizing.proofs.forms.substitute.Lts as lts
-use Rattle.sizing.proofs.forms.chosen.Reads as chosen-reads
-use Rattle.sizing.proofs.forms.constant_form.Reads as constant-form-reads
 
 abbrev Inv-loop : tie.InvT-loop
 Inv-loop n row arguments rest₀ t₀ rest t = (t ≤ n) × Substituting row n arguments t rest

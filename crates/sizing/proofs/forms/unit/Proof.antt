@@ -1,10 +1,9 @@
+-- `unit` meets its contract: one store into zeros.
 use mathlib.Core.Path.{refl}
 use Rattle.rules.specs.Forms.{variableOnly}
 use borrow.Author.Needs.{needs}
 use Rattle.sizing.proofs.forms.unit.Statement.{statement}
 use Rattle.sizing.proofs.forms.unit.Tie as tie
-use Rattle.sizing.proofs.forms.unit.Reads as reads
-use Rattle.sizing.proofs.forms.unit.Lts as lts
 
 mul-c : tie.Need-mul-c
 mul-c c = search needs

@@ -15,11 +15,6 @@ use Rattle.sizing.proofs.OwnLaws.{widened-wide}
 use borrow.Author.Needs.{needs}
 use Rattle.sizing.proofs.line.own_form.Statement.{statement}
 use Rattle.sizing.proofs.line.own_form.Tie as tie
-use Rattle.sizing.proofs.line.own_form.Reads as reads
-use Rattle.sizing.proofs.line.own_form.Lts as lts
-use Rattle.sizing.proofs.forms.no_form.Reads as no-form-reads
-use Rattle.sizing.proofs.line.widen.Reads as widen-reads
-use Rattle.sizing.proofs.splits.carry.Reads as carry-reads
 
 abbrev Inv-loop : tie.InvT-loop
 Inv-loop s bound n x₀ i₀ x i = (i ≤ n) × (length (x .alternatives) ≡ 16) × (take i (x .alternatives) ≡ map (λ row. carried (take (s .taken) (s .list)) (ownRow row)) (take i (bound .rows)))

@@ -12,12 +12,6 @@ use Rattle.sizing.proofs.SplitLaws.{carried-wide}
 use borrow.Author.Needs.{needs}
 use Rattle.sizing.proofs.line.stack_forms.Statement.{statement}
 use Rattle.sizing.proofs.line.stack_forms.Tie as tie
-use Rattle.sizing.proofs.line.stack_forms.Reads as reads
-use Rattle.sizing.proofs.line.stack_forms.Lts as lts
-use Rattle.sizing.proofs.forms.no_form.Reads as no-form-reads
-use Rattle.sizing.proofs.forms.single.Reads as single-reads
-use Rattle.sizing.proofs.forms.unit.Reads as unit-reads
-use Rattle.sizing.proofs.splits.carry.Reads as carry-reads
 
 abbrev Inv-loop : tie.InvT-loop
 Inv-loop st s n r₀ i₀ r i = (i ≤ n) × (length r ≡ 20) × ((j : ℕ) → j < i → Single (getD r j noForm) (carried (take (s .taken) (s .list)) (variableOnly (getD (st .stack) j 0))))

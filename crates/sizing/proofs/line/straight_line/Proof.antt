@@ -21,15 +21,6 @@ use Rattle.sizing.proofs.StraightLaws.{Line, LineGoes, Making, line-own
 use borrow.Author.Needs.{needs}
 use Rattle.sizing.proofs.line.straight_line.Statement.{statement}
 use Rattle.sizing.proofs.line.straight_line.Tie as tie
-use Rattle.sizing.proofs.line.straight_line.Reads as reads
-use Rattle.sizing.proofs.line.straight_line.Lts as lts
-use Rattle.program.proofs.instruction.Reads as instruction-reads
-use Rattle.program.proofs.wide.Reads as wide-reads
-use Rattle.sizing.proofs.cover.covered_by.Reads as covered-by-reads
-use Rattle.sizing.proofs.forms.into_bound.Reads as into-bound-reads
-use Rattle.sizing.proofs.line.own_form.Reads as own-form-reads
-use Rattle.sizing.proofs.line.stack_forms.Reads as stack-forms-reads
-use Rattle.sizing.proofs.routines.maker_of.Reads as maker-of-reads
 
 abbrev Inv-loop : tie.InvT-loop
 Inv-loop program n heads g f start own stack₀ height₀ j₀ stack height j = Line program g start own stack₀ height₀ stack height j

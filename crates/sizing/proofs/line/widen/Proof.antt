@@ -3,8 +3,6 @@ use Rattle.sizing.proofs.OwnLaws.{widened-four}
 use borrow.Author.Needs.{needs}
 use Rattle.sizing.proofs.line.widen.Statement.{statement}
 use Rattle.sizing.proofs.line.widen.Tie as tie
-use Rattle.sizing.proofs.line.widen.Reads as reads
-use Rattle.sizing.proofs.line.widen.Lts as lts
 
 array-read-c : tie.Need-array-read-c
 array-read-c c = search needs

@@ -14,8 +14,6 @@ use Rattle.sizing.proofs.StateLaws.{parts-next, up-none}
 use borrow.Author.Needs.{needs}
 use Rattle.sizing.proofs.paths.add_taken.Statement.{statement}
 use Rattle.sizing.proofs.paths.add_taken.Tie as tie
-use Rattle.sizing.proofs.paths.add_taken.Reads as reads
-use Rattle.sizing.proofs.paths.add_taken.Lts as lts
 
 cast-n : tie.Need-cast-n
 cast-n c = search needs

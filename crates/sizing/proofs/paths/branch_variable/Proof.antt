@@ -15,12 +15,6 @@ use Rattle.sizing.proofs.StepLaws.{branch-taken, branch-other, branch-o
 use borrow.Author.Needs.{needs}
 use Rattle.sizing.proofs.paths.branch_variable.Statement.{statement}
 use Rattle.sizing.proofs.paths.branch_variable.Tie as tie
-use Rattle.sizing.proofs.paths.branch_variable.Reads as reads
-use Rattle.sizing.proofs.paths.branch_variable.Lts as lts
-use Rattle.sizing.proofs.paths.add_taken.Reads as add-taken-reads
-use Rattle.sizing.proofs.paths.find_split.Reads as find-split-reads
-use Rattle.sizing.proofs.paths.push_parts.Reads as push-parts-reads
-use Rattle.sizing.proofs.paths.unvisited.Reads as unvisited-reads
 
 unvisited-requires : tie.Need-unvisited-requires
 unvisited-requires c κs = search needs

@@ -1,3 +1,4 @@
+-- `find_split` meets its contract: no split before the place is of the variable.
 use borrow.Author.Count.{below-more}
 -- `sizing::find_split` meets its contract: none of the splits before i is of v. Assumes nothing.
 use mathlib.Core.Path.{_≡_, refl, sym, ap, _∙_}
@@ -15,8 +16,6 @@ use Rattle.sizing.proofs.StateLaws.{parts-next, up-none}
 use borrow.Author.Needs.{needs}
 use Rattle.sizing.proofs.paths.find_split.Statement.{statement}
 use Rattle.sizing.proofs.paths.find_split.Tie as tie
-use Rattle.sizing.proofs.paths.find_split.Reads as reads
-use Rattle.sizing.proofs.paths.find_split.Lts as lts
 
 abbrev Inv-loop : tie.InvT-loop
 Inv-loop v st n i₀ i = (i ≤ n) × ((j : ℕ) → j < i → v ≡ getD (st .list) j noSplit .variable → ⊥)

@@ -14,8 +14,6 @@ use Rattle.sizing.proofs.StateLaws.{parts-next, up-none}
 use borrow.Author.Needs.{needs}
 use Rattle.sizing.proofs.paths.load_variable.Statement.{statement}
 use Rattle.sizing.proofs.paths.load_variable.Tie as tie
-use Rattle.sizing.proofs.paths.load_variable.Reads as reads
-use Rattle.sizing.proofs.paths.load_variable.Lts as lts
 
 element-copy-out-r : tie.Need-element-copy-out-r
 element-copy-out-r c = search needs

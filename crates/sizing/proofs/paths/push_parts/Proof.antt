@@ -14,8 +14,6 @@ use Rattle.sizing.proofs.StateLaws.{parts-next, up-none}
 use borrow.Author.Needs.{needs}
 use Rattle.sizing.proofs.paths.push_parts.Statement.{statement}
 use Rattle.sizing.proofs.paths.push_parts.Tie as tie
-use Rattle.sizing.proofs.paths.push_parts.Reads as reads
-use Rattle.sizing.proofs.paths.push_parts.Lts as lts
 
 abbrev Inv-loop : tie.InvT-loop
 Inv-loop first parts base n v₀ r₀ i₀ v r i =

@@ -10,10 +10,6 @@ use Rattle.sizing.proofs.ListLaws.{stored-each}
 use borrow.Author.Needs.{needs}
 use Rattle.sizing.proofs.routines.bound_at.Statement.{statement}
 use Rattle.sizing.proofs.routines.bound_at.Tie as tie
-use Rattle.sizing.proofs.routines.bound_at.Reads as reads
-use Rattle.sizing.proofs.routines.bound_at.Lts as lts
-use Rattle.program.proofs.alternative.Reads as alternative-reads
-use Rattle.program.proofs.wide.Reads as wide-reads
 
 abbrev Inv-loop : tie.InvT-loop
 Inv-loop program n at count k rows₀ i₀ rows i = (i ≤ k) × (length rows ≡ 4) × ((j : ℕ) → j < i → getD rows j noRow ≡ alternativeAt (payload program) (alternativeOffset at j))

@@ -8,10 +8,6 @@ use Rattle.rules.specs.Records.{constructorAt, constructorOffset}
 use borrow.Author.Needs.{needs}
 use Rattle.sizing.proofs.routines.build_maker.Statement.{statement}
 use Rattle.sizing.proofs.routines.build_maker.Tie as tie
-use Rattle.sizing.proofs.routines.build_maker.Reads as reads
-use Rattle.sizing.proofs.routines.build_maker.Lts as lts
-use Rattle.program.proofs.constructor.Reads as constructor-reads
-use Rattle.program.proofs.wide.Reads as wide-reads
 
 is : (bytes : List ℕ) {k : ConstructorRecord} {w c : ℕ} → w ≡ c → k ≡ constructorAt bytes (4 + 8 * w) → k ≡ constructorAt bytes (constructorOffset c)
 is bytes e h = h ∙ ap (λ (i : ℕ). constructorAt bytes (4 + 8 * i)) e

@@ -17,11 +17,6 @@ use Rattle.sizing.specs.Routines.{MakerIs}
 use borrow.Author.Needs.{needs}
 use Rattle.sizing.proofs.routines.maker_of.Statement.{statement}
 use Rattle.sizing.proofs.routines.maker_of.Tie as tie
-use Rattle.sizing.proofs.routines.maker_of.Reads as reads
-use Rattle.sizing.proofs.routines.maker_of.Lts as lts
-use Rattle.program.proofs.wide.Reads as wide-reads
-use Rattle.sizing.proofs.routines.build_maker.Reads as build-maker-reads
-use Rattle.sizing.proofs.routines.routine_at.Reads as routine-at-reads
 
 no-maker : (bytes : List ℕ) (ins : Instruction) (m : Maker) → m .makes ≡ false → OneOf (0 ∷ 3 ∷ 4 ∷ 5 ∷ []) (tagOf the-type ins) → MakerIs bytes ins m
 no-maker bytes (Load a) m e k = e

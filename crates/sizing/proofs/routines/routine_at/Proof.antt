@@ -5,11 +5,6 @@ use Rattle.rules.specs.declared.records.HeadRecord.{HeadRecord}
 use borrow.Author.Needs.{needs}
 use Rattle.sizing.proofs.routines.routine_at.Statement.{statement}
 use Rattle.sizing.proofs.routines.routine_at.Tie as tie
-use Rattle.sizing.proofs.routines.routine_at.Reads as reads
-use Rattle.sizing.proofs.routines.routine_at.Lts as lts
-use Rattle.program.proofs.head.Reads as head-reads
-use Rattle.program.proofs.wide.Reads as wide-reads
-use Rattle.sizing.proofs.routines.bound_at.Reads as bound-at-reads
 
 head-requires : tie.Need-head-requires
 head-requires c κs = (c .before .pre .0, rw (c .before .pre .0 .long) (c .before .pre .1 .head))

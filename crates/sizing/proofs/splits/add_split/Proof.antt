@@ -14,8 +14,6 @@ use Rattle.sizing.proofs.CodeLaws.{bumped, bumped-wide, bumped-other, s
 use borrow.Author.Needs.{needs}
 use Rattle.sizing.proofs.splits.add_split.Statement.{statement}
 use Rattle.sizing.proofs.splits.add_split.Tie as tie
-use Rattle.sizing.proofs.splits.add_split.Reads as reads
-use Rattle.sizing.proofs.splits.add_split.Lts as lts
 
 abbrev Inv-loop : tie.InvT-loop
 Inv-loop a v first parts w c r₀ j₀ r j =

@@ -12,9 +12,6 @@ use Rattle.sizing.proofs.CodeLaws.{carried-end, carrying-asks, carrying
 use borrow.Author.Needs.{needs}
 use Rattle.sizing.proofs.splits.carry.Statement.{statement}
 use Rattle.sizing.proofs.splits.carry.Tie as tie
-use Rattle.sizing.proofs.splits.carry.Reads as reads
-use Rattle.sizing.proofs.splits.carry.Lts as lts
-use Rattle.sizing.proofs.splits.add_split.Reads as add-split-reads
 
 abbrev Inv-loop : tie.InvT-loop
 Inv-loop s n r₀ i₀ r i =

@@ -10,13 +10,6 @@ use Rattle.sizing.proofs.MoveLaws.{move-constructor, move-short, move-b
 use borrow.Author.Needs.{needs}
 use Rattle.sizing.proofs.walk.branch.Statement.{statement}
 use Rattle.sizing.proofs.walk.branch.Tie as tie
-use Rattle.sizing.proofs.walk.branch.Reads as reads
-use Rattle.sizing.proofs.walk.branch.Lts as lts
-use Rattle.program.proofs.constructor.Reads as constructor-reads
-use Rattle.program.proofs.wide.Reads as wide-reads
-use Rattle.sizing.proofs.paths.branch_variable.Reads as branch-variable-reads
-use Rattle.sizing.proofs.walk.refuse.Reads as refuse-reads
-use Rattle.sizing.proofs.walk.slot_for.Reads as slot-for-reads
 
 is : (bytes : List ℕ) {k : ConstructorRecord} {w c : ℕ} → w ≡ c → k ≡ constructorAt bytes (4 + 8 * w) → k ≡ constructorAt bytes (constructorOffset c)
 is bytes e h = h ∙ ap (λ (i : ℕ). constructorAt bytes (4 + 8 * i)) e

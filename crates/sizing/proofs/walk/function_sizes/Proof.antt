@@ -12,12 +12,6 @@ use Rattle.sizing.proofs.FileLaws.{here}
 use borrow.Author.Needs.{needs}
 use Rattle.sizing.proofs.walk.function_sizes.Statement.{statement}
 use Rattle.sizing.proofs.walk.function_sizes.Tie as tie
-use Rattle.sizing.proofs.walk.function_sizes.Reads as reads
-use Rattle.sizing.proofs.walk.function_sizes.Lts as lts
-use Rattle.sizing.proofs.paths.unvisited.Reads as unvisited-reads
-use Rattle.sizing.proofs.routines.routine_at.Reads as routine-at-reads
-use Rattle.sizing.proofs.walk.start_state.Reads as start-state-reads
-use Rattle.sizing.proofs.walk.step.Reads as step-reads
 
 abbrev Inv-loop : tie.InvT-loop
 Inv-loop program n heads g f saved₀ last i₀ saved i = Slots program g saved i

@@ -3,11 +3,6 @@ use Rattle.sizing.proofs.MoveLaws.{line-move-asks, said-line-end, said-
 use borrow.Author.Needs.{needs}
 use Rattle.sizing.proofs.walk.line_move.Statement.{statement}
 use Rattle.sizing.proofs.walk.line_move.Tie as tie
-use Rattle.sizing.proofs.walk.line_move.Reads as reads
-use Rattle.sizing.proofs.walk.line_move.Lts as lts
-use Rattle.sizing.proofs.line.straight_line.Reads as straight-line-reads
-use Rattle.sizing.proofs.walk.refuse.Reads as refuse-reads
-use Rattle.sizing.proofs.walk.stay.Reads as stay-reads
 
 straight-line-requires : tie.Need-straight-line-requires
 straight-line-requires c κs = line-move-asks (c .before .pre)

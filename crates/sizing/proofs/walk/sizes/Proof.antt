@@ -10,10 +10,6 @@ use Rattle.sizing.proofs.SizesLaws.{functionCheck, sizes-asks, sizes-st
 use borrow.Author.Needs.{needs}
 use Rattle.sizing.proofs.walk.sizes.Statement.{statement}
 use Rattle.sizing.proofs.walk.sizes.Tie as tie
-use Rattle.sizing.proofs.walk.sizes.Reads as reads
-use Rattle.sizing.proofs.walk.sizes.Lts as lts
-use Rattle.program.proofs.wide.Reads as wide-reads
-use Rattle.sizing.proofs.walk.function_sizes.Reads as function-sizes-reads
 
 abbrev Inv-loop : tie.InvT-loop
 Inv-loop program n heads m g₀ g = sizesRight (programOf (payload program)) ≡ forEach (functionCheck program) g (m - g)

@@ -18,15 +18,6 @@ use Rattle.sizing.proofs.MoveLaws.{said-skipped, said-end, move-load-as
 use borrow.Author.Needs.{needs}
 use Rattle.sizing.proofs.walk.step.Statement.{statement}
 use Rattle.sizing.proofs.walk.step.Tie as tie
-use Rattle.sizing.proofs.walk.step.Reads as reads
-use Rattle.sizing.proofs.walk.step.Lts as lts
-use Rattle.program.proofs.instruction.Reads as instruction-reads
-use Rattle.program.proofs.wide.Reads as wide-reads
-use Rattle.sizing.proofs.paths.load_variable.Reads as load-variable-reads
-use Rattle.sizing.proofs.paths.unvisited.Reads as unvisited-reads
-use Rattle.sizing.proofs.walk.branch.Reads as branch-reads
-use Rattle.sizing.proofs.walk.line_move.Reads as line-move-reads
-use Rattle.sizing.proofs.walk.stay.Reads as stay-reads
 
 ---- What is known at a place of the code
 
