@@ -1,9 +1,8 @@
 -- A bound at forms, row by row.
-use mathlib.Core.Path.{_≡_, refl, sym, ap, _∙_}
-use mathlib.Core.List.{List, [], _∷_, _++_, map}
-use Prim.Native.Nat.{ℕ, zero, suc, _+_, _*_, _-_, _≤_, _<_, zero-le}
+use mathlib.Core.Path.{_≡_, sym, ap, _∙_}
+use mathlib.Core.List.{List, _++_}
+use Prim.Native.Nat.{ℕ, _+_, _-_, _≤_, _<_}
 use native.Mathlib.Omega.{arith}
-use native.Mathlib.Nat.{le-trans, le-refl}
 use lib.ListN.{length, getD, take, drop, length-append, length-map, List·getD-map, take-append-drop}
 use lib.Seq.{getD-take, length-take-le, take-all}
 use Rattle.rules.specs.declared.records.Alternative.{Alternative}
@@ -12,9 +11,9 @@ use Rattle.rules.specs.Records.{alternativeOf}
 use Rattle.rules.specs.Forms.{Form, flatMap, substituted, intoBound}
 use Rattle.sizing.specs.declared.forms.Form as code
 use Rattle.sizing.specs.declared.forms.Bound.{Bound}
-use Rattle.sizing.specs.Forms.{formIn, FormRight, Made, noRow, boundIn, RowRight, BoundRight}
+use Rattle.sizing.specs.Forms.{formIn, FormRight, Made, noRow, boundIn, BoundRight}
 use Rattle.sizing.proofs.RightLaws.{form-length}
-use Rattle.sizing.proofs.BuildLaws.{flat-next, flat-append, flat-none}
+use Rattle.sizing.proofs.BuildLaws.{flat-next, flat-append}
 
 -- what an alternative of a bound makes of the forms of n arguments
 abbrev pub rowForm : ℕ → AlternativeRecord → List Form → Form

@@ -1,17 +1,17 @@
 -- Making forms: laws of appending, of every choice, and of how many they are.
 use mathlib.Core.Path.{_≡_, refl, sym, ap, _∙_}
-use mathlib.Core.List.{List, [], _∷_, _++_, map, append-assoc, append-nil, map-append}
-use mathlib.Core.Bool.{Bool, true, false, _&&_}
-use Prim.Native.Nat.{ℕ, zero, suc, _+_, _*_, _-_, _≤_, _<_, zero-le}
+use mathlib.Core.List.{List, [], _∷_, _++_, map, append-assoc, append-nil}
+use mathlib.Core.Bool.{Bool, true, false}
+use Prim.Native.Nat.{ℕ, zero, suc, _+_, _*_, _-_, _≤_, _<_}
 use native.Mathlib.Omega.{arith}
 use native.Mathlib.Numerals.{add-one}
-use native.Mathlib.Nat.{add-zero, zero-add, mul-le-mul, le-trans, mul-le-mul-right, mul-le-mul-left, add-mul, suc-mul, le-refl}
-use lib.ListN.{length, getD, set, take, drop, length-append, length-map, take-append-drop, length-set, List·getD-eq-default}
-use lib.Seq.{take-suc, take-suc-set, getD-set-same, getD-set-other, length-take-le, take-take, take-length}
-use lib.Dec.{eqb, leb, ltb}
+use native.Mathlib.Nat.{mul-le-mul, le-trans, mul-le-mul-left, suc-mul}
+use lib.ListN.{length, getD, set, take, length-append, length-map, length-set, List·getD-eq-default}
+use lib.Seq.{take-suc, getD-set-same, getD-set-other}
+use lib.Dec.{eqb, ltb}
 use borrow.Author.Tests.{eqb-true, eqb-false, ltb-true, ltb-false}
 use Rattle.rules.specs.declared.records.Alternative.{Alternative}
-use Rattle.rules.specs.Forms.{Form, added, flatMap, constantOnly, substituted, intoBound}
+use Rattle.rules.specs.Forms.{Form, added, flatMap}
 use Rattle.sizing.specs.Put.{coefficient, Wide, AllWide, Below, AllBelow, noAlternative}
 use Rattle.sizing.specs.Forms.{choices}
 use Rattle.sizing.proofs.PutLaws.{alternative-ext, added-wide, added-at, added-constant}
@@ -120,10 +120,6 @@ pub choices-some : (m : ℕ) (form rest : Form) → (m ≡ 0 → ⊥) → choice
 unfolding choices
 choices-some zero form rest n = absurd (n refl)
 choices-some (suc m) form rest n = refl
-
-pub flat-none : (f : Alternative → Form) (l : Form) → flatMap f (take 0 l) ≡ []
-unfolding flatMap
-flat-none f l = refl
 
 pub some-made : (n k : ℕ) → 0 < n → 0 < k → n * k ≡ 0 → ⊥
 some-made n k h g e = let z : 1 * 1 ≤ n * k = mul-le-mul h g in omega arith

@@ -1,12 +1,12 @@
 -- What 7 and 8 give at each instruction that is reached: its operands are there, and what follows it is reached.
 use mathlib.Core.Path.{_≡_, refl, sym, ap, _∙_}
 use mathlib.Core.List.{List, [], _∷_, _++_}
-use mathlib.Core.Option.{Option, none, some}
+use mathlib.Core.Option.{some}
 use mathlib.Core.Bool.{Bool, true, false, not, _&&_}
 use Prim.Native.Nat.{ℕ, zero, suc, _+_, _-_, _≤_, _<_}
 use native.Mathlib.Omega.{arith}
 use native.Mathlib.Nat.{le-trans}
-use lib.ListN.{length, take, drop, getElem?, length-append, length-drop}
+use lib.ListN.{length, getElem?, length-append}
 use lib.Seq.{length-take-le}
 use lib.Dec.{leb}
 use borrow.Author.Tests.{leb-true}
@@ -19,7 +19,7 @@ use Rattle.rules.specs.Walk.{Arrow, visited, arrived}
 use Rattle.rules.specs.Flow.{flowFrom, flowRule, flowOf}
 use Rattle.rules.specs.Types.{typeRule, typesOf}
 use Rattle.rules.specs.Lists.{All, l[], _l∷_}
-use Rattle.rules.proofs.ListLaws.{none-some, some-inj, and-left, and-right, split-parts, all-one, all-two}
+use Rattle.rules.proofs.ListLaws.{none-some, some-inj, and-left, split-parts, all-one, all-two}
 use Rattle.rules.proofs.TriedLaws.{after-required}
 use Rattle.rules.proofs.WalkLaws.{Walks, walks, walks-as, walk-all, table-start, table-on}
 use Rattle.rules.proofs.RuleLaws.{Low, type-low, type-among, type-load, type-build, type-call, type-branch, flow-single, flow-load, flow-build, flow-call, flow-branch, flow-among, flow-once, flow-forward, flow-follows}
@@ -47,7 +47,6 @@ pub record Branches (s : Program) (g : ℕ) (f : Function) (i h c b : ℕ) : Typ
   pub known : constructor s c ≡ some kind
   pub some-stack : 1 ≤ h
   pub ahead : i + 2 ≤ b
-  pub within-code : b ≤ length (f .code)
   pub next : At s g f (suc i) (h - 1 + length (kind .arguments)) false
   pub other : At s g f b h false
 
@@ -179,7 +178,6 @@ module _ (s : Program) (g : ℕ) (f : Function) {T : List (List Bool)} (eT : flo
           known = t .1;
           some-stack = omega (arith, d .0);
           ahead = leb-true _ _ (and-left (leb (i + 2) b) (leb b (length (f .code))) w);
-          within-code = leb-true _ _ (and-right (leb (i + 2) b) (leb b (length (f .code))) w);
           next = record { stack = t .2 ++ t .0 .arguments; types = types .0; high = length-append (t .2) (t .0 .arguments) ∙ omega (arith, d .1); flow = flows .0 ∙ ap some (l .0) };
           other = record { stack = y .stack; types = types .1; high = y .high; flow = flows .1 ∙ ap some (l .0) };
         },

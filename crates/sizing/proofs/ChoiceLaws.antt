@@ -1,11 +1,11 @@
 -- Every choice, one after the other: choice i takes alternative i / k of the form and i % k of the k of the rest.
 use mathlib.Core.Path.{_≡_, refl, sym, ap, _∙_}
-use mathlib.Core.List.{List, [], _∷_, _++_, map}
+use mathlib.Core.List.{[], _∷_, _++_, map}
 use mathlib.Core.Bool.{Bool, true, false}
-use Prim.Native.Nat.{ℕ, zero, suc, _+_, _*_, _-_, _/_, _%_, _≤_, _<_}
+use Prim.Native.Nat.{ℕ, suc, _+_, _*_, _-_, _/_, _%_, _≤_, _<_}
 use native.Mathlib.Omega.{arith}
 use native.Mathlib.Numerals.{add-one}
-use native.Mathlib.Nat.{div-eq-of-lt, mod-eq-of-lt, div-eq-sub-div, mod-eq-sub-mod, div-lt-iff-lt-mul, mod-lt, mul-le-mul, suc-mul}
+use native.Mathlib.Nat.{div-eq-of-lt, mod-eq-of-lt, div-eq-sub-div, mod-eq-sub-mod, div-lt-iff-lt-mul, mod-lt, suc-mul}
 use lib.ListN.{length, getD, set, take, length-map, length-set, List·getD-append}
 use lib.Seq.{take-suc, take-all, getD-append-add}
 use lib.Dec.{ltb}
@@ -25,9 +25,6 @@ unfolding flatMap
 flat-at f rest [] i p h = absurd (omega arith)
 flat-at f rest (x ∷ xs) i p h = go (λ j l. flat-at f rest xs j p l) (ltb i (length rest)) refl
   where
-    tail : Form
-    tail = flatMap (λ c. map (f c) rest) xs
-
     go : ((j : ℕ) → j < length xs * length rest → getD (flatMap (λ c. map (f c) rest) xs) j noAlternative ≡ f (getD xs (j / length rest) noAlternative) (getD rest (j % length rest) noAlternative))
         → (t : Bool) → ltb i (length rest) ≡ t
         → getD (map (f x) rest ++ flatMap (λ c. map (f c) rest) xs) i noAlternative ≡ f (getD (x ∷ xs) (i / length rest) noAlternative) (getD rest (i % length rest) noAlternative)

@@ -1,26 +1,26 @@
 -- What the loops of the code use: what is left of a list, one step on.
 use mathlib.Core.Path.{_≡_, refl, sym, ap, _∙_}
-use mathlib.Core.List.{List, [], _∷_, _++_, map}
-use mathlib.Core.Bool.{Bool, true, false, _&&_, _||_}
-use mathlib.Core.Logic.{_⊎_, inl, inr}
+use mathlib.Core.List.{List}
+use mathlib.Core.Bool.{Bool, true, false, _||_}
+use mathlib.Core.Logic.{inl, inr}
 use Prim.Native.Nat.{ℕ, zero, suc, _+_, _*_, _-_, _≤_, _<_, zero-le}
 use native.Mathlib.Omega.{arith}
 use native.Mathlib.Numerals.{add-one}
-use native.Mathlib.Nat.{add-zero, mul-le-mul, le-trans}
-use lib.ListN.{length, getD, set, take, drop, replicate, drop-of-length-le, length-set}
-use lib.Seq.{drop-cons, take-suc, getD-set-same, getD-set-other, getD-take, length-take-le}
-use lib.Dec.{eqb, leb, ltb}
+use native.Mathlib.Nat.{mul-le-mul, le-trans}
+use lib.ListN.{length, getD, set, take, drop, drop-of-length-le, length-set}
+use lib.Seq.{drop-cons, getD-set-same, getD-set-other, getD-take, length-take-le}
+use lib.Dec.{eqb, ltb}
 use borrow.Author.Tests.{le-leb, lt-leb, eqb-true, eqb-false, ltb-true, ltb-false}
 use Rattle.rules.specs.declared.records.Alternative.{Alternative}
 use Rattle.rules.specs.Base.{all, any}
-use Rattle.rules.specs.Forms.{Form, atMost, matches, covers, added, constantOnly, variableOnly}
+use Rattle.rules.specs.Forms.{Form, atMost, matches, added, constantOnly, variableOnly}
 use Rattle.sizing.specs.declared.splits.Split.{Split}
 use Rattle.sizing.specs.Put.{coefficient, cleared, put, Wide, AllWide, Below, noAlternative}
 use Rattle.sizing.specs.Splits.{spanned, splitA, carried, Tidy, Loose, Numbered, Carrying, noSplit}
-use Rattle.sizing.proofs.PutLaws.{alternative-ext, added-wide, added-at, added-constant, constant-wide, constant-at, variable-wide, variable-same, variable-other, variable-constant, put-other-variable, cleared-wide, put-at, put-wide, put-constant, cleared-same, cleared-other}
+use Rattle.sizing.proofs.PutLaws.{cleared-below, alternative-ext, added-wide, added-at, added-constant, constant-wide, constant-at, variable-wide, variable-same, variable-other, variable-constant, put-other-variable, put-at, put-wide, put-constant}
 use Rattle.rules.proofs.ListLaws.{all-at}
 use Rattle.sizing.proofs.ListLaws.{element-at}
-use Rattle.sizing.proofs.SplitLaws.{spanned-wide, spanned-low, spanned-in, spanned-high, carried-more, numbered-le}
+use Rattle.sizing.proofs.SplitLaws.{spanned-wide, spanned-low, spanned-in, spanned-high, numbered-le}
 
 ---- Matching
 
@@ -139,31 +139,24 @@ put-tidy n k a p h v f l w =
     record {
       wide = put-wide (p .variable) (splitA p) a sw (h .wide);
       most = λ i. rw (put-at (p .variable) (splitA p) a i sw (h .wide)) (go i (ltb i n) refl (ltb i (n + p .parts)) refl);
-      none = λ i g. rw (put-at (p .variable) (splitA p) a i sw (h .wide), spanned-high (p .first) (p .parts) (p .weight) i (omega arith)) (omega (arith, cleared-le i, h .none i (omega arith)));
+      none = λ i g. rw (put-at (p .variable) (splitA p) a i sw (h .wide), spanned-high (p .first) (p .parts) (p .weight) i (omega arith)) (omega (arith, cleared-below (p .variable) a i, h .none i (omega arith)));
       constant = rw (put-constant (p .variable) (splitA p) a) (omega (arith, h .constant, cost));
     }
   where
     sw : Wide (splitA p)
     sw = spanned-wide (p .first) (p .parts) (p .weight)
 
-    cleared-le : (i : ℕ) → coefficient (cleared (p .variable) a) i ≤ coefficient a i
-    cleared-le i = one (eqb i (p .variable)) refl
-      where
-        one : (t : Bool) → eqb i (p .variable) ≡ t → coefficient (cleared (p .variable) a) i ≤ coefficient a i
-        one true e = rw (eqb-true i (p .variable) e, cleared-same (p .variable) a) zero-le
-        one false e = rw (cleared-other (p .variable) a i (eqb-false i (p .variable) e)) (omega arith)
-
     cost : coefficient a (p .variable) * splitA p .constant ≤ 3825
     cost = rw (spanned-constant (p .first) (p .parts) (p .weight)) (mul-le-mul {n₂ = 15} {m₂ = 255} (h .most (p .variable)) w)
 
     go : (i : ℕ) (t : Bool) → ltb i n ≡ t → (u : Bool) → ltb i (n + p .parts) ≡ u → coefficient (cleared (p .variable) a) i + coefficient a (p .variable) * coefficient (splitA p) i ≤ 15
-    go i true e u g = rw (spanned-low (p .first) (p .parts) (p .weight) i (omega (arith, ltb-true i n e))) (omega (arith, cleared-le i, h .most i))
+    go i true e u g = rw (spanned-low (p .first) (p .parts) (p .weight) i (omega (arith, ltb-true i n e))) (omega (arith, cleared-below (p .variable) a i, h .most i))
     go i false e true g =
         rw (spanned-in (p .first) (p .parts) (p .weight) i (omega arith) (omega (arith, ltb-false i n e)) (omega (arith, ltb-true i (n + p .parts) g)))
-        (omega (arith, cleared-le i, h .none i (ltb-false i n e), h .most (p .variable)))
+        (omega (arith, cleared-below (p .variable) a i, h .none i (ltb-false i n e), h .most (p .variable)))
     go i false e false g =
         rw (spanned-high (p .first) (p .parts) (p .weight) i (omega (arith, ltb-false i (n + p .parts) g)))
-        (omega (arith, cleared-le i, h .most i))
+        (omega (arith, cleared-below (p .variable) a i, h .most i))
 
 pub unit-tidy : (n k v : ℕ) → v < n → v < 16 → Tidy n k (variableOnly v)
 unit-tidy n k v h g =

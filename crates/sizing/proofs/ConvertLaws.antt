@@ -1,34 +1,28 @@
 -- The first build or call on a path: variables become forms, all covered.
 use mathlib.Core.Path.{_≡_, refl, sym, ap, _∙_}
-use mathlib.Core.List.{List, [], _∷_, _++_, map, map-map}
-use mathlib.Core.Bool.{Bool, true, false}
-use mathlib.Core.Logic.{_⊎_, inl, inr}
-use mathlib.Core.Option.{Option, none, some}
-use Prim.Native.Nat.{ℕ, zero, suc, _+_, _*_, _-_, _≤_, _<_, zero-le}
+use mathlib.Core.List.{List, [], _∷_, map, map-map}
+use mathlib.Core.Logic.{inl}
+use mathlib.Core.Option.{none, some}
+use Prim.Native.Nat.{ℕ, zero, suc, _+_, _*_, _-_, _≤_, _<_}
 use native.Mathlib.Omega.{arith}
-use native.Mathlib.Nat.{le-trans, le-refl, zero-add, add-zero}
-use lib.ListN.{length, getD, take, drop, length-map}
+use native.Mathlib.Nat.{zero-add}
+use lib.ListN.{length, getD, take, length-map}
 use lib.Seq.{getD-take, length-take-le, ext-getD}
-use lib.Dec.{ltb}
-use borrow.Author.Tests.{ltb-true, ltb-false}
 use Rattle.rules.specs.declared.records.Alternative.{Alternative}
 use Rattle.rules.specs.Program.{Constructor, Function, Program, arity, constructor}
-use Rattle.rules.specs.Expressions.{Expression, variables}
-use Rattle.rules.specs.Forms.{variableOnly, intoBound, formOf, covers}
-use Rattle.rules.specs.Forms as forms
+use Rattle.rules.specs.Forms.{variableOnly, formOf}
 use Rattle.sizing.specs.declared.forms.Form.{Form}
 use Rattle.sizing.specs.declared.splits.Split.{Split}
 use Rattle.sizing.specs.declared.paths.Saved.{Saved}
-use Rattle.sizing.specs.Put.{coefficient, put, Wide, AllWide, Below, AllBelow, widened}
-use Rattle.rules.specs.Lists.{All, l[], _l∷_}
-use Rattle.sizing.specs.Splits.{variableE, through, splitA, carried, SplitRight, SplitsRight, Numbered, Tidy, Loose, Carrying, noSplit}
+use Rattle.sizing.specs.Put.{coefficient, put, AllBelow, widened}
+use Rattle.rules.specs.Lists.{All}
+use Rattle.sizing.specs.Splits.{variableE, through, splitA, carried, SplitsRight, Numbered, Tidy, Loose, Carrying, noSplit}
 use Rattle.sizing.specs.States.{stackIn, splitsIn}
 use Rattle.rules.specs.Records.{alternativeOf}
 use Rattle.rules.proofs.ListLaws.{all-mapped}
 use Rattle.sizing.specs.declared.forms.Bound.{Bound}
-use Rattle.sizing.specs.declared.splits.Splits.{Splits}
-use Rattle.sizing.specs.Forms.{formIn, FormRight, Single, noForm, noRow, BoundRight, boundIn}
-use Rattle.sizing.specs.Right.{Path, ownAt, AllUnder, shapeIn, SavedRight, LineRight}
+use Rattle.sizing.specs.Forms.{formIn, noForm, noRow, BoundRight, boundIn}
+use Rattle.sizing.specs.Right.{ownAt, shapeIn, SavedRight, LineRight}
 use Rattle.sizing.specs.Steps.{FormsAsks, FormsAre, ownRow, OwnAsks, OwnIs}
 use Rattle.sizing.proofs.SplitLaws.{form-through, numbered-le}
 use Rattle.sizing.proofs.CodeLaws.{put-loose, loose-unit, loose-below}

@@ -1,22 +1,22 @@
 -- Cover as an order of alternatives; it is kept where an alternative is put for a variable.
-use mathlib.Core.Path.{_≡_, refl, sym, ap, _∙_}
-use mathlib.Core.List.{List, [], _∷_, _++_, map}
-use mathlib.Core.Bool.{Bool, true, false, _&&_, _||_}
-use Prim.Native.Nat.{ℕ, zero, suc, _+_, _*_, _-_, _≤_, _<_, zero-le}
+use mathlib.Core.Path.{_≡_, refl, sym, _∙_}
+use mathlib.Core.List.{List, [], _∷_, map}
+use mathlib.Core.Bool.{Bool, true, false, _||_}
+use Prim.Native.Nat.{ℕ, suc, _*_, _-_, _≤_, _<_, zero-le}
 use native.Mathlib.Omega.{arith}
-use native.Mathlib.Nat.{mul-le-mul-right, le-trans, add-le-add, le-refl, mul-le-mul}
-use lib.ListN.{length, getD, set, replicate}
-use lib.Dec.{eqb, leb, ltb}
+use native.Mathlib.Nat.{mul-le-mul-right, mul-le-mul}
+use lib.ListN.{getD}
+use lib.Dec.{eqb, leb}
 use borrow.Author.Tests.{le-leb, leb-true, eqb-true, eqb-false, eq-eqb}
 use Rattle.rules.specs.declared.records.Alternative.{Alternative}
-use Rattle.rules.specs.Base.{all, any}
-use Rattle.rules.specs.Lists.{All, l[], _l∷_}
+use Rattle.rules.specs.Base.{any}
+use Rattle.rules.specs.Lists.{_l∷_}
 use Rattle.rules.proofs.ListLaws.{false-true, and-left, and-right}
 use Rattle.rules.proofs.Measures.{at-most-at}
 use Rattle.rules.specs.Forms.{Form, atMost, matches, covers, variableOnly}
 use Rattle.sizing.specs.Put.{coefficient, cleared, put, Wide, AllWide}
 use Rattle.sizing.proofs.ListLaws.{and-both}
-use Rattle.sizing.proofs.PutLaws.{put-wide, put-at, put-constant, cleared-same, cleared-other, variable-same, variable-other, variable-constant, variable-wide}
+use Rattle.sizing.proofs.PutLaws.{put-at, put-constant, cleared-same, cleared-other, variable-same, variable-other, variable-constant}
 
 -- a is at most b
 pub record Under (a b : Alternative) : Type 0 where

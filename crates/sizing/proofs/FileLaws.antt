@@ -1,39 +1,35 @@
 -- What a file whose records are right and which 6, 7 and 8 pass gives: its functions, constructors and bounds as the code reads them.
 use mathlib.Core.Path.{_≡_, refl, sym, ap, _∙_}
 use mathlib.Core.List.{List, [], _∷_, map}
-use mathlib.Core.Option.{Option, none, some}
-use mathlib.Core.Bool.{Bool, true, false, _&&_}
-use Prim.Native.Nat.{ℕ, zero, suc, _+_, _*_, _-_, _≤_, _<_, zero-le}
+use mathlib.Core.Option.{some}
+use mathlib.Core.Bool.{Bool, true, false}
+use Prim.Native.Nat.{ℕ, zero, suc, _+_, _-_, _≤_, _<_, zero-le}
 use native.Mathlib.Omega.{arith}
-use native.Mathlib.Nat.{zero-add, le-trans}
+use native.Mathlib.Nat.{zero-add}
 use lib.ListN.{length, take, drop, getD, getElem?, length-map, List·getD-map, List·getD-eq-default}
-use lib.Seq.{getD-take, length-take-le, ext-getD, take-length}
+use lib.Seq.{getD-take, length-take-le, ext-getD}
 use lib.Dec.{leb, ltb}
 use borrow.Author.Tests.{leb-true, ltb-true, ltb-false}
-use Rattle.rules.specs.declared.records.Alternative.{Alternative}
-use Rattle.rules.specs.declared.records.Instruction.{Instruction}
 use Rattle.rules.specs.Base.{refusal, found, numbered, isZero, all, any, byteAt, wordAt}
 use Rattle.rules.specs.Container.{payload}
-use Rattle.rules.specs.Program.{Constructor, Function, Program, arity, constructor, function}
+use Rattle.rules.specs.Program.{Constructor, Function, arity, constructor, function}
 use Rattle.rules.specs.Records.{alternativeAt, constructorAt, instructionAt, pastZero, alternativeRight, constructorOffset, alternativeOffset, codeOffset, instructionOffset, headOffset, constructorOf, alternativeOf, instructionOf, functionOf, programOf, fourAt}
 use Rattle.rules.specs.Declarations.{counted, argumentRule, boundRule, boundsRight}
 use Rattle.rules.specs.Stacks.{slot}
 use Rattle.rules.specs.Flow.{flowOf, flowRight}
 use Rattle.rules.specs.Types.{typesOf, typesRight}
-use Rattle.rules.specs.Lists.{All}
-use Rattle.rules.specs.Opened.{Opened, FunctionThere}
+use Rattle.rules.specs.Opened.{FunctionThere}
 use Rattle.rules.proofs.ListLaws.{none-some, some-inj, and-left, and-right, all-true, all-getD}
 use Rattle.rules.proofs.TriedLaws.{required, each-found}
 use Rattle.rules.proofs.NumberedLaws.{numbered-length, numbered-at, numbered-past}
 use Rattle.rules.proofs.RecordLaws.{arguments-length}
 use Rattle.rules.proofs.ContainerLaws.{opened-byte}
 use Rattle.sizing.specs.declared.forms.Bound.{Bound}
-use Rattle.sizing.specs.Put.{widened, noAlternative}
-use Rattle.sizing.specs.Forms.{boundIn, noRow, RowRight, BoundRight}
+use Rattle.sizing.specs.Forms.{boundIn, noRow, BoundRight}
 use Rattle.sizing.specs.Routines.{BoundIs}
 use Rattle.sizing.specs.Walking.{programIn, functionIn, Walking}
-use Rattle.sizing.proofs.ListLaws.{getD-element, map-same, element-at}
-use Rattle.sizing.proofs.OwnLaws.{RowFits, widened-past}
+use Rattle.sizing.proofs.ListLaws.{getD-element, element-at}
+use Rattle.sizing.proofs.OwnLaws.{widened-past}
 use Rattle.sizing.proofs.ConvertLaws.{Light, OwnBound}
 
 -- an element of a numbered list, and back

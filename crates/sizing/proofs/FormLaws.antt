@@ -1,23 +1,22 @@
 -- The form of an expression with one put for a variable: the alternatives with its alternative put there.
 use mathlib.Core.Path.{_≡_, refl, sym, ap, _∙_}
 use mathlib.Core.List.{List, [], _∷_, _++_, map, map-append}
-use mathlib.Core.Bool.{Bool, true, false, _&&_}
+use mathlib.Core.Bool.{Bool, true, false}
 use mathlib.Core.Option.{Option, none, some}
-use Prim.Native.Nat.{ℕ, zero, suc, _+_, _*_, _-_, _≤_, _<_}
-use native.Mathlib.Omega.{arith}
-use lib.ListN.{length, getD, set, replicate}
-use lib.Dec.{eqb, leb, ltb}
-use borrow.Author.Tests.{eq-eqb, ne-eqb, eqb-true, eqb-false}
+use Prim.Native.Nat.{ℕ, zero, suc, _+_, _-_, _<_}
+use lib.ListN.{length, replicate}
+use lib.Dec.{eqb}
+use borrow.Author.Tests.{eqb-true, eqb-false}
 use Rattle.rules.specs.declared.records.Alternative.{Alternative}
 use Rattle.rules.specs.Base.{if_then_else_}
 use Rattle.rules.specs.Program.{constructor, function, Constructor, Function, Program}
-use Rattle.rules.specs.Tree.{Tree, Trees, node, nil, cons, toList, fromList, made}
+use Rattle.rules.specs.Tree.{Trees, node, nil, cons}
 use Rattle.rules.specs.Expressions.{Symbol, variable, built, called, Expression, replace, replaceAll}
-use Rattle.rules.specs.Forms.{Form, plusTimes, added, constantOnly, variableOnly, flatMap, substituted, intoBound, builtForm, calledForm, formOf, formsOf}
-use Rattle.rules.specs.Lists.{All, l[], _l∷_}
+use Rattle.rules.specs.Forms.{Form, added, constantOnly, variableOnly, flatMap, substituted, intoBound, builtForm, calledForm, formOf, formsOf}
+use Rattle.rules.specs.Lists.{All, _l∷_}
 use Rattle.rules.proofs.Measures.{substituted-wide, forms-wide}
-use Rattle.sizing.specs.Put.{coefficient, cleared, put, Wide, AllWide}
-use Rattle.sizing.proofs.PutLaws.{added-wide, put-wide, put-added, put-absent, constant-wide, constant-at, variable-wide, put-variable, put-other-variable}
+use Rattle.sizing.specs.Put.{put, Wide, AllWide}
+use Rattle.sizing.proofs.PutLaws.{put-added, put-absent, constant-wide, constant-at, put-variable, put-other-variable}
 
 ---- Putting goes through substitution
 

@@ -1,24 +1,22 @@
 -- The rules where the stack is forms: all are covered, and a load, a build and a call put one more on top.
 use mathlib.Core.Path.{_≡_, refl, sym, ap, _∙_}
 use mathlib.Core.List.{List, [], _∷_, _++_, map, map-append}
-use mathlib.Core.Bool.{Bool, true, false, _&&_, _||_}
+use mathlib.Core.Bool.{Bool, true, false, _||_}
 use mathlib.Core.Option.{some}
-use Prim.Native.Nat.{ℕ, zero, suc, _+_, _-_, _≤_, _<_}
+use Prim.Native.Nat.{ℕ, suc, _+_, _-_, _≤_, _<_}
 use native.Mathlib.Omega.{arith}
 use native.Mathlib.Nat.{le-trans}
 use lib.ListN.{length, getD, set, take, drop, replicate, length-map, length-set}
 use lib.Seq.{getD-take, length-take-le, take-take}
-use lib.Dec.{leb}
 use borrow.Author.Tests.{le-leb, lt-leb}
 use Rattle.rules.specs.declared.records.Alternative.{Alternative}
 use Rattle.rules.specs.declared.records.Instruction.{Instruction}
-use Rattle.rules.specs.declared.records.Instruction.the-variants.{Load, Build, Call}
+use Rattle.rules.specs.declared.records.Instruction.the-variants.{Load}
 use Rattle.rules.specs.Lists.{l[], _l∷_}
-use Rattle.rules.specs.Base.{refusal, Tried, found, refused, _>>=_, all, any}
+use Rattle.rules.specs.Base.{refusal, found, refused, all, any}
 use Rattle.rules.specs.Program.{Constructor, Function, Program, arity, constructor, function}
 use Rattle.rules.specs.Tree.{fromList, made}
 use Rattle.rules.specs.Stacks.{split, push}
-use Rattle.rules.specs.Walk.{Arrow}
 use Rattle.rules.specs.Expressions.{Symbol, built, called, Expression}
 use Rattle.rules.specs.Forms as forms
 use Rattle.rules.specs.Forms.{matches, covers, formOf, formsOf, substituted, intoBound, builtForm, calledForm}
@@ -26,10 +24,10 @@ use Rattle.rules.specs.Shapes.{Shape, withStack, coveredAt, enter, shapeFrom, s
 use Rattle.rules.proofs.ListLaws.{false-true, and-left, and-right}
 use Rattle.sizing.specs.declared.forms.Form.{Form}
 use Rattle.sizing.specs.Put.{Wide, AllWide, Below, AllBelow}
-use Rattle.sizing.specs.Forms.{formIn, FormRight, Entry, Made, noForm}
+use Rattle.sizing.specs.Forms.{formIn, Entry, Made, noForm}
 use Rattle.sizing.specs.Right.{Held, LineRight}
 use Rattle.sizing.proofs.ListLaws.{all-holds, all-last-fails, element-at, getD-of-map, map-take, map-drop, drop-take, take-stored, stored-each}
-use Rattle.sizing.proofs.CoverLaws.{Under, matches-under}
+use Rattle.sizing.proofs.CoverLaws.{matches-under}
 use Rattle.sizing.proofs.RightLaws.{form-length}
 
 ---- Covered forms are small

@@ -1,13 +1,12 @@
 -- One step of the walk: what each way through it says of what is left.
 use mathlib.Core.Path.{_≡_, refl, sym, ap, _∙_}
-use mathlib.Core.List.{List, [], _∷_, _++_, map, map-id}
-use mathlib.Core.Option.{Option, none, some}
+use mathlib.Core.List.{List, [], _∷_, _++_}
+use mathlib.Core.Option.{some}
 use mathlib.Core.Bool.{Bool, true, false}
-use Prim.Native.Nat.{ℕ, zero, suc, _+_, _*_, _-_, _≤_, _<_}
+use Prim.Native.Nat.{ℕ, zero, suc, _+_, _-_, _≤_, _<_}
 use native.Mathlib.Omega.{arith}
 use native.Mathlib.Numerals.{add-one}
-use native.Mathlib.Nat.{le-trans}
-use lib.ListN.{length, getD, take}
+use lib.ListN.{length, getD}
 use lib.Seq.{getD-take, length-take-le}
 use Rattle.rules.specs.declared.answers.Checked.{Checked}
 use Rattle.rules.specs.declared.answers.Checked.the-variants as checked
@@ -15,12 +14,11 @@ use Rattle.rules.specs.declared.answers.Reason.{Reason}
 use Rattle.rules.specs.declared.answers.Reason.the-variants.{TooManyForms}
 use Rattle.rules.specs.declared.records.ConstructorRecord.{ConstructorRecord}
 use Rattle.rules.specs.declared.records.Instruction.{Instruction}
-use Rattle.rules.specs.declared.records.Instruction.the-variants.{Load, Build, Call, Branch, Return, Stop}
-use Rattle.rules.specs.Base.{refusal, Tried, found, refused, _>>=_, if_then_else_, byteAt}
+use Rattle.rules.specs.declared.records.Instruction.the-variants.{Load, Branch}
+use Rattle.rules.specs.Base.{refusal, found, refused, if_then_else_}
 use Rattle.rules.specs.Container.{payload}
-use Rattle.rules.specs.Program.{Constructor, Function, Program, arity, constructor}
-use Rattle.rules.specs.Records.{constructorAt, constructorOffset, headOffset}
-use Rattle.rules.specs.Stacks.{slot}
+use Rattle.rules.specs.Program.{Constructor, Program, arity, constructor}
+use Rattle.rules.specs.Records.{constructorAt, constructorOffset}
 use Rattle.rules.specs.Walk.{Arrow, arriving, first}
 use Rattle.rules.specs.Shapes.{Shape, shapeFrom, shapeRule}
 use Rattle.rules.specs.Answers.{refusalOf}
@@ -34,16 +32,15 @@ use Rattle.sizing.specs.declared.line.Straight.the-variants as straight
 use Rattle.sizing.specs.declared.walk.Moved.{Moved}
 use Rattle.sizing.specs.Splits.{SplitRight, SplitsRight, Numbered, noSplit}
 use Rattle.sizing.specs.States.{stackIn, splitsIn, SameSplits}
-use Rattle.sizing.specs.Right.{shapeIn, SavedRight}
-use Rattle.sizing.specs.Steps.{topOf, given, arrowsOf, BranchAsks, BranchSays, Branching}
+use Rattle.sizing.specs.Right.{shapeIn}
+use Rattle.sizing.specs.Steps.{given, arrowsOf, BranchAsks, BranchSays, Branching}
 use Rattle.sizing.specs.Left.{leftFrom}
-use Rattle.sizing.specs.Routines.{RoutineIs}
-use Rattle.sizing.specs.Walking.{programIn, functionIn, Walking, Makes, LineAsks, lineLeft, LineSays}
-use Rattle.sizing.specs.Moves.{Fit, StayIs, FunctionAsks, MoveAsks, LineMoveAsks, StepAsks, standing, leaving, moveLeft, Lands, StepSays}
+use Rattle.sizing.specs.Walking.{programIn, functionIn, LineAsks, LineSays}
+use Rattle.sizing.specs.Moves.{StayIs, MoveAsks, LineMoveAsks, StepAsks, standing, leaving, moveLeft, Lands, StepSays}
 use Rattle.sizing.proofs.WalkLaws.{outcome-skipped, outcome-refused, outcome-goes}
 use Rattle.sizing.proofs.ChartLaws.{Branches}
 use Rattle.sizing.proofs.ReachLaws.{at-low, at-load, at-branch, at-place}
-use Rattle.sizing.proofs.FileLaws.{constructor-named, constructor-read, code-length, code-at, here}
+use Rattle.sizing.proofs.FileLaws.{constructor-named, constructor-read, code-length, code-at}
 use Rattle.sizing.proofs.ShapeLaws.{rule-from}
 use Rattle.sizing.proofs.StepLaws.{load-saved, under-top}
 use Rattle.sizing.proofs.StartLaws.{branch-room}

@@ -1,32 +1,30 @@
 -- The function's own bound at its parameters' shapes, and that every variable of a path is covered by it.
 use mathlib.Core.Path.{_≡_, refl, sym, ap, _∙_}
-use mathlib.Core.List.{List, [], _∷_, _++_, map, map-map, map-id}
-use mathlib.Core.Bool.{Bool, true, false, _&&_}
-use mathlib.Core.Option.{Option, none, some}
-use Prim.Native.Nat.{ℕ, zero, suc, _+_, _*_, _-_, _≤_, _<_, zero-le}
+use mathlib.Core.List.{List, [], _∷_, _++_, map, map-map}
+use mathlib.Core.Bool.{true}
+use Prim.Native.Nat.{ℕ, zero, suc, _+_, _-_, _≤_, _<_}
 use native.Mathlib.Omega.{arith}
-use native.Mathlib.Nat.{add-zero, zero-add, add-suc, suc-add, le-trans, le-refl}
-use lib.ListN.{length, getD, set, take, drop, replicate, List·getD-eq-default}
+use native.Mathlib.Nat.{add-zero, zero-add}
+use lib.ListN.{length, getD, take, drop, replicate, List·getD-eq-default}
 use lib.Seq.{take-nil}
-use lib.Dec.{eqb, leb, ltb}
-use borrow.Author.Tests.{le-leb, leb-true, eqb-true, eqb-false, eq-eqb, ne-eqb, ltb-true, ltb-false}
+use lib.Dec.{eqb}
+use borrow.Author.Tests.{ne-eqb}
 use Rattle.rules.specs.declared.records.Alternative.{Alternative}
-use Rattle.rules.specs.Base.{all, any, isZero}
+use Rattle.rules.specs.Base.{all, isZero}
 use Rattle.rules.specs.Expressions.{Expression, variables}
-use Rattle.rules.specs.Forms.{Form, added, constantOnly, variableOnly, flatMap, substituted, intoBound, formOf, formsOf, matches, covers}
-use Rattle.rules.specs.Shapes.{Shape, coveredAt}
-use Rattle.rules.specs.Program.{Constructor, Function, Program, arity}
+use Rattle.rules.specs.Forms.{Form, added, constantOnly, variableOnly, flatMap, substituted, intoBound, formOf, formsOf, covers}
+use Rattle.rules.specs.Shapes.{coveredAt}
+use Rattle.rules.specs.Program.{Function, Program, arity}
 use Rattle.sizing.specs.declared.splits.Split.{Split}
 use Rattle.sizing.specs.Put.{coefficient, put, Wide, AllWide, widened}
-use Rattle.sizing.specs.Splits.{variableE, through, splitA, carried, SplitsRight, Numbered, Tidy, shapeOf}
+use Rattle.sizing.specs.Splits.{variableE, through, splitA, carried, SplitsRight, shapeOf}
 use Rattle.sizing.proofs.PutLaws.{alternative-ext, zero-at, added-wide, added-at, added-constant, put-wide, constant-wide, constant-at, variable-wide, variable-same, variable-other, variable-constant}
-use Rattle.rules.specs.Lists.{All, l[], _l∷_}
+use Rattle.rules.specs.Lists.{All, _l∷_}
 use Rattle.rules.proofs.ListLaws.{false-true, and-left, all-mapped, all-any}
 use Rattle.rules.proofs.FormLaws.{all-flatMap}
 use Rattle.rules.proofs.Measures.{substituted-wide, form-wide}
 use Rattle.sizing.proofs.ListLaws.{and-both}
 use Rattle.sizing.proofs.FormLaws.{put-bound}
-use Rattle.sizing.proofs.CoverLaws.{Under, under-matches}
 use Rattle.sizing.proofs.SplitLaws.{spanned-wide, form-through}
 use Rattle.sizing.specs.Right.{Path, ownAt, AllUnder}
 

@@ -1,17 +1,16 @@
 -- Putting an alternative for a variable is linear: it goes through substitution, and it keeps cover.
 use mathlib.Core.Path.{_≡_, refl, sym, ap, _∙_}
-use mathlib.Core.List.{List, [], _∷_, _++_, map}
-use mathlib.Core.Bool.{Bool, true, false, _&&_}
-use mathlib.Core.Option.{Option, none, some}
+use mathlib.Core.List.{List, [], _∷_}
+use mathlib.Core.Bool.{Bool, true, false}
 use Prim.Native.Nat.{ℕ, zero, suc, _+_, _*_, _-_, _≤_, _<_, zero-le}
 use native.Mathlib.Omega.{arith}
-use native.Mathlib.Nat.{add-mul, mul-add, mul-assoc, zero-mul, mul-zero, zero-add, add-zero, not-suc-le-zero, le-of-suc-le-suc}
-use lib.ListN.{length, getD, set, replicate, length-set, length-replicate, getD-replicate, List·getD-eq-default}
-use lib.Seq.{getD-set-same, getD-set-other, ext-getD, set-getD}
-use lib.Dec.{eqb, leb, ltb}
-use borrow.Author.Tests.{eq-eqb, ne-eqb, le-leb, lt-leb, eqb-true, eqb-false, leb-true}
+use native.Mathlib.Nat.{add-mul, mul-add, mul-assoc}
+use lib.ListN.{length, getD, set, replicate, length-set}
+use lib.Seq.{getD-set-same, getD-set-other, ext-getD}
+use lib.Dec.{eqb}
+use borrow.Author.Tests.{eqb-true, eqb-false}
 use Rattle.rules.specs.declared.records.Alternative.{Alternative}
-use Rattle.rules.specs.Forms.{Form, plusTimes, added, constantOnly, variableOnly, flatMap, substituted, intoBound}
+use Rattle.rules.specs.Forms.{plusTimes, added, constantOnly, variableOnly}
 use Rattle.sizing.specs.Put.{coefficient, cleared, put, Wide}
 
 ---- Coefficient by coefficient

@@ -1,29 +1,27 @@
 -- The shape rules where the stack is variables: one law for each instruction.
 use mathlib.Core.Path.{_≡_, refl, sym, ap, _∙_}
-use mathlib.Core.List.{List, [], _∷_, _++_, map, map-append, append-assoc}
-use mathlib.Core.Bool.{Bool, true, false, _&&_}
-use mathlib.Core.Option.{Option, none, some}
-use Prim.Native.Nat.{ℕ, zero, suc, _+_, _*_, _-_, _≤_, _<_, zero-le}
+use mathlib.Core.List.{List, [], _∷_, _++_, map, map-append}
+use mathlib.Core.Bool.{true, false}
+use mathlib.Core.Option.{some}
+use Prim.Native.Nat.{ℕ, zero, suc, _+_, _-_, _≤_, _<_}
 use native.Mathlib.Omega.{arith}
-use native.Mathlib.Nat.{add-zero, add-suc, suc-add, le-trans, le-refl, not-suc-le-zero, le-of-suc-le-suc}
-use lib.ListN.{length, getD, take, drop, getElem?, length-append, length-map}
+use native.Mathlib.Nat.{le-refl, not-suc-le-zero, le-of-suc-le-suc}
+use lib.ListN.{length, getD, getElem?, length-append}
 use lib.Seq.{take-at, drop-at}
-use lib.Dec.{eqb, leb, ltb}
-use borrow.Author.Tests.{le-leb, lt-leb, eqb-true, eqb-false, eq-eqb, ne-eqb}
+use lib.Dec.{eqb}
+use borrow.Author.Tests.{le-leb, lt-leb, eq-eqb, ne-eqb}
 use Rattle.rules.specs.declared.records.Instruction.{Instruction}
-use Rattle.rules.specs.declared.records.Instruction.the-variants.{Load, Build, Call, Branch, Return, Stop}
-use Rattle.rules.specs.Base.{Refusal, refusal, Tried, found, refused, _>>=_, if_then_else_, require, all, any, orRefuse}
-use Rattle.rules.specs.Program.{constructor, function, Constructor, Function, Program, arity}
-use Rattle.rules.specs.Tree.{Tree, Trees, node, nil, cons, toList, fromList, made}
-use Rattle.rules.specs.Stacks.{slot, split, push}
-use Rattle.rules.specs.Walk.{Arrow}
-use Rattle.rules.specs.Expressions.{Symbol, variable, built, called, Expression, variables, replace, replaceAll}
-use Rattle.rules.specs.Forms.{Form}
-use Rattle.rules.specs.Shapes.{Shape, coveredAt, withStack, branchOn, splitVariable, shapeFrom, shapeRule}
+use Rattle.rules.specs.declared.records.Instruction.the-variants.{Load, Branch}
+use Rattle.rules.specs.Base.{refusal, found, refused, if_then_else_}
+use Rattle.rules.specs.Program.{constructor, Constructor, Function, Program, arity}
+use Rattle.rules.specs.Tree.{Tree, Trees, node, cons, toList, fromList, made}
+use Rattle.rules.specs.Stacks.{split}
+use Rattle.rules.specs.Expressions.{Symbol, variable, built, Expression, variables, replace, replaceAll}
+use Rattle.rules.specs.Shapes.{Shape, coveredAt, branchOn, splitVariable, shapeFrom, shapeRule}
 use Rattle.sizing.specs.declared.splits.Split.{Split}
-use Rattle.sizing.specs.Splits.{variableE, splitE, through, SplitRight, SplitsRight, Numbered, Whole, shapeOf}
+use Rattle.sizing.specs.Splits.{variableE, splitE, through, Numbered, Whole, shapeOf}
 use Rattle.sizing.specs.States.{upFrom}
-use Rattle.sizing.proofs.SplitLaws.{through-more, through-whole, whole-new, numbered-le}
+use Rattle.sizing.proofs.SplitLaws.{through-more, through-whole, whole-new}
 use Rattle.sizing.proofs.OwnLaws.{variables-covered}
 use Rattle.sizing.specs.Right.{Path, ownAt, AllUnder}
 

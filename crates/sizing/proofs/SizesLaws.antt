@@ -1,18 +1,18 @@
 -- The walk over all functions: the first refusal counts.
 use mathlib.Core.Path.{_≡_, sym, ap, _∙_}
 use mathlib.Core.List.{List, [], _∷_}
-use Prim.Native.Nat.{ℕ, zero, suc, _+_, _-_, _≤_, _<_}
+use Prim.Native.Nat.{ℕ, suc, _+_, _-_, _≤_, _<_}
 use native.Mathlib.Omega.{arith}
 use lib.ListN.{getD}
 use Rattle.rules.specs.declared.answers.Checked.{Checked}
 use Rattle.rules.specs.declared.answers.Checked.the-variants as checked
 use Rattle.rules.specs.declared.answers.Reason.{Reason}
 use Rattle.rules.specs.declared.records.Header.{Header}
-use Rattle.rules.specs.Base.{refused, Check, passed, only, each, forEach, byteAt}
+use Rattle.rules.specs.Base.{refused, Check, passed, only, forEach, byteAt}
 use Rattle.rules.specs.Container.{payload}
 use Rattle.rules.specs.Records.{headerAt, headOffset, functionOf, programOf}
 use Rattle.rules.specs.Shapes.{shapesOf, sizesRight}
-use Rattle.rules.specs.Lists.{All, l[], _l∷_}
+use Rattle.rules.specs.Lists.{l[], _l∷_}
 use Rattle.rules.specs.Facts.{Bytes}
 use Rattle.rules.specs.Answers.{refusalOf, toldCheck}
 use Rattle.rules.proofs.RecordLaws.{records-there}

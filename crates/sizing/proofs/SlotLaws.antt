@@ -1,7 +1,6 @@
 -- The slots of a function's walk: each holds the state that arrives first at its instruction.
 use mathlib.Core.Path.{_≡_, refl, sym, ap, _∙_}
 use mathlib.Core.List.{List, [], _∷_, _++_, map, map-id}
-use mathlib.Core.Option.{Option, none, some}
 use mathlib.Core.Bool.{Bool, true, false}
 use Prim.Native.Nat.{ℕ, zero, suc, _+_, _-_, _≤_, _<_}
 use native.Mathlib.Omega.{arith}
@@ -13,26 +12,24 @@ use borrow.Author.Tests.{eqb-true, eqb-false}
 use Rattle.rules.specs.declared.answers.Checked.{Checked}
 use Rattle.rules.specs.declared.answers.Checked.the-variants as checked
 use Rattle.rules.specs.declared.answers.Reason.{Reason}
-use Rattle.rules.specs.Base.{refused, passed, only, if_then_else_, byteAt}
+use Rattle.rules.specs.Base.{refused, passed, only}
 use Rattle.rules.specs.Container.{payload}
-use Rattle.rules.specs.Program.{Function, Program, arity}
+use Rattle.rules.specs.Program.{Function, arity}
 use Rattle.rules.specs.Records.{headOffset}
-use Rattle.rules.specs.Walk.{Arrow, arriving, walk, visited, first}
-use Rattle.rules.specs.Expressions.{Expression, variables}
+use Rattle.rules.specs.Walk.{Arrow, arriving, visited, first}
+use Rattle.rules.specs.Expressions.{variables}
 use Rattle.rules.specs.Shapes.{Shape, shapeRule, startShape, shapesOf}
 use Rattle.rules.specs.Answers.{refusalOf}
 use Rattle.rules.proofs.ListLaws.{false-true}
-use Rattle.sizing.specs.declared.splits.Split.{Split}
 use Rattle.sizing.specs.declared.paths.Saved.{Saved}
 use Rattle.sizing.specs.declared.routines.Routine.{Routine}
 use Rattle.sizing.specs.declared.walk.Moved.{Moved}
 use Rattle.sizing.specs.Splits.{variableE, through}
-use Rattle.sizing.specs.States.{stackIn, splitsIn}
-use Rattle.sizing.specs.Right.{shapeIn, SavedRight, AllUnder}
+use Rattle.sizing.specs.Right.{shapeIn, AllUnder}
 use Rattle.sizing.specs.Steps.{given}
 use Rattle.sizing.specs.Left.{outcome, leftFrom}
 use Rattle.sizing.specs.Routines.{RoutineIs}
-use Rattle.sizing.specs.Walking.{programIn, functionIn, Walking}
+use Rattle.sizing.specs.Walking.{programIn, functionIn}
 use Rattle.sizing.specs.Moves.{StartIs, Fit, FunctionAsks, StepAsks, standing, leaving, moveLeft, Lands, StepSays}
 use Rattle.sizing.proofs.WalkLaws.{first-put, outcome-end}
 use Rattle.sizing.proofs.ReachLaws.{at-start}

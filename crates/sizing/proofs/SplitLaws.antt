@@ -1,27 +1,22 @@
 -- Splits: what a variable stands for after them, its size, and that every variable stays covered.
 use mathlib.Core.Path.{_≡_, refl, sym, ap, _∙_}
 use mathlib.Core.List.{List, [], _∷_, _++_, map, map-map, map-id}
-use mathlib.Core.Bool.{Bool, true, false, _&&_}
-use mathlib.Core.Option.{Option, none, some}
-use Prim.Native.Nat.{ℕ, zero, suc, _+_, _*_, _-_, _≤_, _<_, zero-le}
+use mathlib.Core.Bool.{Bool, true, false}
+use Prim.Native.Nat.{ℕ, zero, suc, _+_, _*_, _-_, _≤_, _<_}
 use native.Mathlib.Omega.{arith}
-use native.Mathlib.Nat.{add-zero, add-suc, suc-add, le-trans}
-use lib.ListN.{length, getD, set, replicate}
-use lib.Dec.{eqb, leb, ltb}
-use borrow.Author.Tests.{le-leb, leb-true, eqb-true, eqb-false, eq-eqb, ne-eqb, ltb-true, ltb-false}
+use lib.ListN.{replicate}
+use lib.Dec.{eqb, ltb}
+use borrow.Author.Tests.{eqb-true, eqb-false, ne-eqb, ltb-true, ltb-false}
 use Rattle.rules.specs.declared.records.Alternative.{Alternative}
-use Rattle.rules.specs.Base.{all, any, if_then_else_}
-use Rattle.rules.specs.Program.{constructor, function, Constructor, Function, Program, arity}
-use Rattle.rules.specs.Tree.{Tree, Trees, node, nil, cons, toList, fromList, made}
-use Rattle.rules.specs.Stacks.{slot, split, push}
-use Rattle.rules.specs.Expressions.{Symbol, variable, built, called, Expression, variables, replace, replaceAll}
-use Rattle.rules.specs.Forms.{Form, added, constantOnly, variableOnly, flatMap, substituted, intoBound, builtForm, formOf, formsOf, covers}
-use Rattle.rules.specs.Shapes.{Shape, coveredAt}
+use Rattle.rules.specs.Program.{Program, arity}
+use Rattle.rules.specs.Tree.{fromList}
+use Rattle.rules.specs.Expressions.{variable, Expression, variables, replace}
+use Rattle.rules.specs.Forms.{Form, added, variableOnly, flatMap, substituted, builtForm, formOf, formsOf, covers}
 use Rattle.sizing.specs.declared.splits.Split.{Split}
-use Rattle.sizing.specs.Put.{coefficient, cleared, put, Wide, AllWide}
-use Rattle.sizing.specs.Splits.{variableE, splitE, through, spanned, splitA, carried, SplitRight, SplitsRight, Numbered, Whole, shapeOf}
+use Rattle.sizing.specs.Put.{coefficient, put, Wide, AllWide}
+use Rattle.sizing.specs.Splits.{variableE, splitE, through, spanned, splitA, carried, SplitRight, SplitsRight, Numbered, Whole}
 use Rattle.sizing.specs.Right.{Path}
-use Rattle.sizing.proofs.PutLaws.{added-wide, added-at, put-wide, put-absent, constant-wide, constant-at, variable-wide, variable-same, variable-other, put-other-variable}
+use Rattle.sizing.proofs.PutLaws.{added-wide, added-at, put-wide, constant-wide, constant-at, variable-wide, variable-same, variable-other, put-other-variable}
 use Rattle.sizing.proofs.SpareLaws.{spare-split}
 use Rattle.rules.specs.Lists.{l[], _l∷_}
 use Rattle.rules.proofs.ListLaws.{all-mapped}

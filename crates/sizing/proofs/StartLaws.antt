@@ -1,12 +1,11 @@
 -- The start of a function: every parameter is covered, by rule 6. And what a branch asks holds of every right state.
 use mathlib.Core.Path.{_≡_, refl, sym, ap, _∙_}
-use mathlib.Core.List.{List, [], _∷_, _++_, map, map-id}
+use mathlib.Core.List.{List, [], _∷_, map, map-id}
 use mathlib.Core.Bool.{Bool, true, false, _||_}
-use mathlib.Core.Option.{Option, none, some}
-use Prim.Native.Nat.{ℕ, zero, suc, _+_, _-_, _≤_, _<_, zero-le}
+use Prim.Native.Nat.{ℕ, _-_, _≤_, _<_, zero-le}
 use native.Mathlib.Omega.{arith}
 use native.Mathlib.Nat.{zero-add}
-use lib.ListN.{length, getD, take}
+use lib.ListN.{length, getD}
 use lib.Seq.{length-take-le}
 use lib.Dec.{eqb, ltb}
 use borrow.Author.Tests.{eqb-true, eqb-false, ltb-true}
@@ -15,13 +14,12 @@ use Rattle.rules.specs.Base.{any}
 use Rattle.rules.specs.Lists.{All, _l∷_}
 use Rattle.rules.proofs.ListLaws.{false-true}
 use Rattle.rules.specs.Expressions.{variables}
-use Rattle.rules.specs.Forms.{Form, variableOnly, intoBound, formOf, matches, covers}
-use Rattle.rules.specs.Program.{Constructor, Function, Program, arity}
-use Rattle.sizing.specs.declared.splits.Split.{Split}
+use Rattle.rules.specs.Forms.{variableOnly, intoBound, formOf, matches, covers}
+use Rattle.rules.specs.Program.{Function, Program, arity}
 use Rattle.sizing.specs.declared.paths.Saved.{Saved}
 use Rattle.sizing.specs.Put.{coefficient, widened}
 use Rattle.sizing.specs.Splits.{carried, Whole}
-use Rattle.sizing.specs.States.{splitsIn, stackIn}
+use Rattle.sizing.specs.States.{splitsIn}
 use Rattle.sizing.specs.Right.{Path, ownAt, SavedRight}
 use Rattle.sizing.specs.Steps.{topOf}
 use Rattle.sizing.proofs.PutLaws.{variable-same, variable-other, variable-constant}

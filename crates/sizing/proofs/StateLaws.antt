@@ -1,19 +1,15 @@
 -- What the code's saved states stand for: laws for each step.
 use mathlib.Core.Path.{_≡_, refl, sym, ap, _∙_}
-use mathlib.Core.List.{List, [], _∷_, _++_, map, append-assoc}
-use mathlib.Core.Bool.{Bool, true, false}
+use mathlib.Core.List.{List, [], _∷_, _++_, append-assoc}
 use Prim.Native.Nat.{ℕ, zero, suc, _+_, _-_, _≤_, _<_}
 use native.Mathlib.Omega.{arith}
 use native.Mathlib.Numerals.{add-one}
 use native.Mathlib.Nat.{add-zero}
-use lib.ListN.{length, getD, set, take, length-set}
-use lib.Seq.{take-suc, getD-take, length-take-le, getD-set-same, getD-set-other}
-use lib.Dec.{eqb}
-use borrow.Author.Tests.{eqb-true, eqb-false}
+use lib.ListN.{length, getD, set, take}
+use lib.Seq.{getD-take, length-take-le}
 use Rattle.sizing.specs.declared.splits.Split.{Split}
-use Rattle.sizing.specs.declared.paths.Saved.{Saved}
 use Rattle.sizing.specs.Splits.{Whole, noSplit}
-use Rattle.sizing.specs.States.{stackIn, splitsIn, upFrom, Found, SameSplits, SplitMore}
+use Rattle.sizing.specs.States.{upFrom, Found}
 use Rattle.sizing.proofs.ListLaws.{take-stored}
 use Rattle.sizing.proofs.ShapeLaws.{Splitting, now-split, later-split}
 

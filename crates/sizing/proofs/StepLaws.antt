@@ -1,29 +1,24 @@
 -- The rules on the code's saved states: a load and a branch.
-use mathlib.Core.Path.{_≡_, refl, sym, ap, _∙_}
-use mathlib.Core.List.{List, [], _∷_, _++_, map, append-assoc}
-use mathlib.Core.Bool.{Bool, true, false}
-use mathlib.Core.Option.{Option, none, some}
+use mathlib.Core.Path.{_≡_, sym, ap, _∙_}
+use mathlib.Core.List.{List, [], _∷_, _++_}
+use mathlib.Core.Option.{some}
 use Prim.Native.Nat.{ℕ, zero, suc, _+_, _-_, _≤_, _<_}
 use native.Mathlib.Omega.{arith}
-use native.Mathlib.Numerals.{add-one}
-use native.Mathlib.Nat.{add-zero, le-refl, le-trans}
-use lib.ListN.{length, getD, set, take, length-set}
+use native.Mathlib.Nat.{le-refl, le-trans}
+use lib.ListN.{length, getD, take}
 use lib.Seq.{take-suc, getD-take, length-take-le}
-use lib.Dec.{eqb}
 use borrow.Author.Tests.{eq-eqb, ne-eqb}
-use Rattle.rules.specs.declared.records.Instruction.{Instruction}
 use Rattle.rules.specs.declared.records.Instruction.the-variants.{Load, Branch}
-use Rattle.rules.specs.Base.{Refusal, refusal, Tried, found, refused, if_then_else_}
+use Rattle.rules.specs.Base.{refusal, found, refused}
 use Rattle.rules.specs.Program.{constructor, Constructor, Function, Program, arity}
-use Rattle.rules.specs.Walk.{Arrow}
 use Rattle.rules.specs.Shapes.{Shape, shapeFrom}
 use Rattle.sizing.specs.declared.splits.Split.{Split}
 use Rattle.sizing.specs.declared.paths.Saved.{Saved}
-use Rattle.sizing.specs.Splits.{Numbered, SplitRight, SplitsRight, Whole, noSplit, shapeOf}
+use Rattle.sizing.specs.Splits.{Numbered, Whole, noSplit, shapeOf}
 use Rattle.sizing.specs.States.{stackIn, splitsIn, upFrom, Found, SameSplits, SplitMore}
 use Rattle.sizing.proofs.SplitLaws.{path-split, numbered-le}
 use Rattle.sizing.proofs.OwnLaws.{own-wide}
-use Rattle.sizing.specs.Right.{Path, ownAt, AllUnder, shapeIn, SavedRight}
+use Rattle.sizing.specs.Right.{ownAt, AllUnder, shapeIn, SavedRight}
 use Rattle.sizing.proofs.ShapeLaws.{Splitting, now-split, later-split, load-rule, branch-known, branch-large, branch-whole}
 use Rattle.sizing.proofs.StateLaws.{whole-of, splitting-of}
 

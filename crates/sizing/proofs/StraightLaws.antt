@@ -1,58 +1,50 @@
 -- The straight line from a first build or call on: what is left of the walk stays the same from instruction to instruction.
 use mathlib.Core.Path.{_≡_, refl, sym, ap, _∙_}
-use mathlib.Core.List.{List, [], _∷_, _++_, map, append-nil}
-use mathlib.Core.Option.{Option, none, some}
+use mathlib.Core.List.{List, [], _∷_, map, append-nil}
+use mathlib.Core.Option.{some}
 use mathlib.Core.Bool.{Bool, true, false}
-use mathlib.Core.Logic.{⊎-elim}
-use Prim.Native.Nat.{ℕ, zero, suc, _+_, _*_, _-_, _≤_, _<_}
+use Prim.Native.Nat.{ℕ, zero, suc, _+_, _-_, _≤_, _<_}
 use native.Mathlib.Omega.{arith}
 use native.Mathlib.Numerals.{add-one}
 use native.Mathlib.Nat.{le-trans, le-refl}
 use lib.ListN.{length, getD, set, take, drop, replicate, length-drop}
 use lib.Seq.{length-take-le, getD-take, getD-drop, ext-getD}
-use lib.Dec.{eqb}
 use borrow.Author.Tests.{eq-eqb}
 use Rattle.rules.specs.declared.records.Alternative.{Alternative}
 use Rattle.rules.specs.declared.records.AlternativeRecord.{AlternativeRecord}
 use Rattle.rules.specs.declared.records.Instruction.{Instruction}
 use Rattle.rules.specs.declared.records.Instruction.the-variants.{Load, Build, Call, Branch, Return, Stop}
-use Rattle.rules.specs.declared.answers.Reason.the-variants.{TooManyForms, NotCovered}
-use Rattle.rules.specs.Base.{refusal, Tried, found, refused, _>>=_, byteAt}
+use Rattle.rules.specs.Base.{refusal, found, refused}
 use Rattle.rules.specs.Container.{payload}
-use Rattle.rules.specs.Program.{Constructor, Function, Program, arity, constructor, function}
-use Rattle.rules.specs.Records.{instructionAt, constructorOffset, codeOffset, instructionOffset, headOffset, alternativeOf, instructionOf}
+use Rattle.rules.specs.Program.{Function, arity}
+use Rattle.rules.specs.Records.{alternativeOf}
 use Rattle.rules.specs.Stacks.{slot, push}
 use Rattle.rules.specs.Walk.{Arrow, arriving, first}
-use Rattle.rules.specs.Expressions.{Symbol, built, called, Expression, variables}
+use Rattle.rules.specs.Expressions.{Symbol, built, called}
 use Rattle.rules.specs.Forms as forms
 use Rattle.rules.specs.Forms.{formOf, flatMap, substituted, intoBound, covers}
 use Rattle.rules.specs.Shapes.{Shape, withStack, enter, shapeFrom, shapeRule}
-use Rattle.rules.proofs.ListLaws.{none-some, some-inj, false-true}
+use Rattle.rules.proofs.ListLaws.{false-true}
 use Rattle.sizing.specs.declared.forms.Form.{Form}
 use Rattle.sizing.specs.declared.forms.Bound.{Bound}
 use Rattle.sizing.specs.declared.paths.Saved.{Saved}
 use Rattle.sizing.specs.declared.routines.Routine.{Routine}
 use Rattle.sizing.specs.declared.routines.Maker.{Maker}
-use Rattle.sizing.specs.declared.line.Straight.{Straight}
-use Rattle.sizing.specs.declared.line.Straight.the-variants.{Ends, Refused}
 use Rattle.sizing.specs.Splits.{variableE}
-use Rattle.sizing.specs.Forms.{formIn, Entry, Made, noForm, noRow, argumentsIn, boundIn, RowRight, BoundRight, Arguments}
+use Rattle.sizing.specs.Forms.{formIn, Made, noForm, noRow, argumentsIn, boundIn, BoundRight, Arguments}
 use Rattle.sizing.specs.Right.{shapeIn, LineRight}
 use Rattle.sizing.specs.Steps.{FormsAsks, FormsAre, OwnAsks, OwnIs}
 use Rattle.sizing.specs.Chart.{At}
-use Rattle.sizing.specs.Left.{leftFrom, Alike}
-use Rattle.sizing.specs.Routines.{BuildIs, CallIs, RoutineIs, OperandThere, MakerIs}
-use Rattle.sizing.specs.Walking.{programIn, functionIn, Walking, Makes, LineAsks, lineLeft, Further, LineSays}
+use Rattle.sizing.specs.Left.{leftFrom}
+use Rattle.sizing.specs.Routines.{MakerIs}
+use Rattle.sizing.specs.Walking.{programIn, functionIn, Makes, LineAsks}
 use Rattle.sizing.proofs.WalkLaws.{alike-past, alike-here, alike-put, outcome-alike, outcome-refused, outcome-goes, first-put}
 use Rattle.sizing.proofs.ReachLaws.{at-low, at-load, at-build, at-call, at-branch, at-some}
-use Rattle.sizing.proofs.FileLaws.{constructor-named, constructor-read, light, function-named, here, arity-is, few-parameters, code-length, some-code, code-at, flow-found, types-found, bound-right, bound-is, own-bound}
+use Rattle.sizing.proofs.FileLaws.{constructor-read, light, function-named, arity-is, few-parameters, bound-right, bound-is, own-bound}
 use Rattle.sizing.proofs.ConvertLaws.{stack-asks, own-asks, converted}
 use Rattle.sizing.proofs.LineLaws.{line-rule, line-entry, load-line, entered, enteredShape, enter-large, enter-goes, enter-line, enter-refused, build-form, call-form}
 
 ---- The top four
-
-four-length : (n : ℕ) {A : Type 0} (a b c d : A) → n ≤ 4 → length (take n (a ∷ b ∷ c ∷ d ∷ [])) ≡ n
-four-length n a b c d h = length-take-le n (a ∷ b ∷ c ∷ d ∷ []) h
 
 -- as the code has them
 abbrev pub topFour : List Form → ℕ → List Form
@@ -162,9 +154,6 @@ module _ {file : List ℕ} {n : ℕ} {heads : List ℕ} {g : ℕ} {r : Routine} 
   ---- At instruction j
 
   module _ {from : Shape} {own : Form} {stack : List Form} {height j : ℕ} (l : LineGoes file g start from own stack height j) where
-    abbrev goesOn : ℕ → List (Arrow Shape) → Type 0
-    goesOn k arrows = leftFrom (programIn file) g (functionIn file g) j ((j, l .shape) ∷ arrows) ≡ leftFrom (programIn file) g (functionIn file g) k arrows
-
     -- one arrow leaves, to the next instruction
     on : (ins : Instruction) (next : Shape) (arrows : List (Arrow Shape)) → slot j (functionIn file g .code) ≡ some ins
         → shapeFrom (programIn file) g (functionIn file g) j ins (l .shape) ≡ found ((suc j, next) ∷ [])

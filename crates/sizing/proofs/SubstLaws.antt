@@ -1,19 +1,17 @@
 -- Substitution, argument by argument from the last: its next step, how many alternatives it makes, and how large they are.
 use mathlib.Core.Path.{_≡_, refl, sym, ap, _∙_}
-use mathlib.Core.List.{List, [], _∷_, _++_, map}
-use mathlib.Core.Bool.{Bool, true, false}
+use mathlib.Core.List.{List, [], _∷_, map}
 use Prim.Native.Nat.{ℕ, zero, suc, _+_, _*_, _-_, _≤_, _<_, zero-le}
 use native.Mathlib.Omega.{arith}
 use native.Mathlib.Numerals.{add-one}
-use native.Mathlib.Nat.{le-trans, le-refl, mul-le-mul-right, mul-le-mul, mul-le-mul-left}
-use lib.ListN.{length, getD, set, take, drop, length-append, length-map, length-drop, take-append-drop, List·getD-map, length-take, drop-of-length-le}
-use lib.Seq.{drop-cons, getD-take, getD-drop, length-take-le}
-use Rattle.rules.specs.declared.records.Alternative.{Alternative}
+use native.Mathlib.Nat.{le-trans, le-refl, mul-le-mul-right}
+use lib.ListN.{length, getD, take, drop, length-map, List·getD-map, drop-of-length-le}
+use lib.Seq.{drop-cons, getD-take, length-take-le}
 use Rattle.rules.specs.declared.records.AlternativeRecord.{AlternativeRecord}
 use Rattle.rules.specs.Lists.{l[], _l∷_}
-use Rattle.rules.specs.Forms.{Form, added, flatMap, constantOnly, substituted, intoBound}
+use Rattle.rules.specs.Forms.{Form, added, flatMap, constantOnly, substituted}
 use Rattle.sizing.specs.declared.forms.Form as code
-use Rattle.sizing.specs.Put.{coefficient, Wide, AllWide, Below, AllBelow, noAlternative}
+use Rattle.sizing.specs.Put.{AllBelow}
 use Rattle.sizing.specs.Forms.{formIn, FormRight, Entry, Made, choices, noForm, argumentsIn, RowRight, Arguments}
 use Rattle.sizing.proofs.PutLaws.{constant-wide, constant-at}
 use Rattle.sizing.proofs.RightLaws.{form-length}

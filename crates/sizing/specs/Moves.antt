@@ -2,7 +2,7 @@
 use mathlib.Core.Path.{_≡_}
 use mathlib.Core.List.{List, [], _∷_, _++_}
 use mathlib.Core.Option.{Option, none, some}
-use mathlib.Core.Bool.{Bool, true, false}
+use mathlib.Core.Bool.{true, false}
 use Prim.Native.Nat.{ℕ, _+_, _≤_, _<_}
 use lib.ListN.{length}
 use Rattle.rules.specs.declared.answers.Checked.{Checked}
@@ -11,7 +11,7 @@ use Rattle.rules.specs.declared.records.Header.{Header}
 use Rattle.rules.specs.declared.records.Instruction.{Instruction}
 use Rattle.rules.specs.Base.{refused, Check, passed, if_then_else_, byteAt}
 use Rattle.rules.specs.Container.{payload}
-use Rattle.rules.specs.Program.{Function, Program, arity}
+use Rattle.rules.specs.Program.{arity}
 use Rattle.rules.specs.Records.{headOffset, programOf}
 use Rattle.rules.specs.Declarations.{declarationsRight, boundsRight}
 use Rattle.rules.specs.Flow.{flowRight}

@@ -1,9 +1,9 @@
 -- When the code's states stand for a shape.
 use mathlib.Core.Path.{_≡_}
-use mathlib.Core.List.{List, [], _∷_, _++_, map}
-use mathlib.Core.Bool.{Bool, true}
-use Prim.Native.Nat.{ℕ, zero, suc, _+_, _≤_, _<_}
-use lib.ListN.{length, take, drop, getD}
+use mathlib.Core.List.{List, [], _∷_, map}
+use mathlib.Core.Bool.{true}
+use Prim.Native.Nat.{ℕ, _≤_, _<_}
+use lib.ListN.{length, take, getD}
 use Rattle.rules.specs.Program.{Function, Program, arity}
 use Rattle.rules.specs.Forms as forms
 use Rattle.rules.specs.Expressions.{variables}

@@ -1,15 +1,15 @@
 -- The splits of a path, oldest first: what a variable stands for after them, and its size.
 use mathlib.Core.Path.{_≡_}
-use Prim.Native.Nat.{ℕ, zero, suc, _+_, _*_, _≤_, _<_}
-use mathlib.Core.List.{List, [], _∷_, _++_, map}
-use mathlib.Core.Option.{Option, none, some}
-use mathlib.Core.Logic.{_⊎_, inl, inr}
-use lib.ListN.{length, getD, set, replicate, take}
+use Prim.Native.Nat.{ℕ, zero, suc, _+_, _≤_, _<_}
+use mathlib.Core.List.{List, [], _∷_, map}
+use mathlib.Core.Option.{none, some}
+use mathlib.Core.Logic.{_⊎_}
+use lib.ListN.{length, getD, take}
 use Rattle.rules.specs.declared.records.Alternative.{Alternative}
 use Rattle.rules.specs.Program.{constructor, Constructor, Program}
 use Rattle.rules.specs.Tree.{node, nil, made}
 use Rattle.rules.specs.Expressions.{Expression, variable, built, variables, replace}
-use Rattle.rules.specs.Forms.{added, Form, constantOnly, variableOnly}
+use Rattle.rules.specs.Forms.{added, constantOnly, variableOnly}
 use Rattle.rules.specs.Shapes.{Shape}
 use Rattle.sizing.specs.declared.splits.Split.{Split}
 use Rattle.sizing.specs.Put.{put, Wide, coefficient}

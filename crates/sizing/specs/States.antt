@@ -1,7 +1,6 @@
 -- What the code's saved states stand for.
 use mathlib.Core.Path.{_≡_}
 use mathlib.Core.List.{List, [], _∷_, _++_}
-use mathlib.Core.Bool.{Bool, true}
 use Prim.Native.Nat.{ℕ, zero, suc, _+_, _≤_, _<_}
 use lib.ListN.{length, take, getD}
 use Rattle.sizing.specs.declared.splits.Split.{Split}

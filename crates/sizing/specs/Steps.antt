@@ -1,17 +1,16 @@
 -- What the code's steps say, by the definitions.
 use mathlib.Core.Path.{_≡_}
-use mathlib.Core.List.{List, [], _∷_, _++_, map}
+use mathlib.Core.List.{List, [], _∷_, map}
 use mathlib.Core.Bool.{Bool, true, false}
-use mathlib.Core.Option.{Option, none, some}
-use Prim.Native.Nat.{ℕ, zero, suc, _+_, _-_, _≤_, _<_}
+use mathlib.Core.Option.{some}
+use Prim.Native.Nat.{ℕ, suc, _+_, _-_, _≤_, _<_}
 use lib.ListN.{length, take, getD}
 use Rattle.rules.specs.declared.records.Instruction.the-variants.{Branch}
-use Rattle.rules.specs.Base.{Tried, found, refused, refusal}
+use Rattle.rules.specs.Base.{found, refused, refusal}
 use Rattle.rules.specs.Program.{constructor, Constructor, Function, Program, arity}
 use Rattle.rules.specs.Walk.{Arrow}
 use Rattle.rules.specs.Forms.{variableOnly}
 use Rattle.rules.specs.Shapes.{Shape, shapeFrom}
-use Rattle.sizing.specs.declared.splits.Split.{Split}
 use Rattle.sizing.specs.declared.paths.Saved.{Saved}
 use Rattle.sizing.specs.declared.paths.Branched.{Branched}
 use Rattle.rules.specs.declared.records.Alternative.{Alternative}
@@ -22,7 +21,7 @@ use Rattle.sizing.specs.declared.splits.Splits.{Splits}
 use Rattle.sizing.specs.Put.{widened}
 use Rattle.sizing.specs.Forms.{formIn, FormRight, Single, noForm, noRow, BoundRight}
 use Rattle.sizing.specs.Splits.{noSplit, Whole, Carrying, carried}
-use Rattle.sizing.specs.States.{stackIn, splitsIn}
+use Rattle.sizing.specs.States.{splitsIn}
 use Rattle.sizing.specs.Right.{shapeIn, SavedRight}
 
 abbrev pub topOf : Saved → ℕ

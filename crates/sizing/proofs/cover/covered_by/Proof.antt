@@ -1,17 +1,16 @@
--- `sizing::covered_by` meets its contract: what is left of the form decides. Assumes nothing.
+-- What is left of the form decides.
 use mathlib.Core.Path.{_≡_, refl, sym, ap, _∙_}
-use Prim.Native.Nat.{ℕ, _≤_, _<_, _+_, _-_, _*_}
+use Prim.Native.Nat.{_≤_, _-_}
 use native.Mathlib.Omega.{arith}
-use lib.ListN.{length, getD, take, drop}
-use lib.Seq.{getD-take, length-take-le}
+use lib.ListN.{drop}
 use mathlib.Core.Bool.{Bool}
 use borrow.Author.Tests.{not-true, not-false}
 use Rattle.rules.specs.declared.records.Alternative.{Alternative}
 use Rattle.rules.specs.Base.{any, all}
 use Rattle.rules.specs.Forms.{matches, covers}
 use Rattle.sizing.specs.declared.forms.Form.{Form}
-use Rattle.sizing.specs.Put.{noAlternative, Wide}
-use Rattle.sizing.specs.Forms.{formIn, FormRight}
+use Rattle.sizing.specs.Put.{noAlternative}
+use Rattle.sizing.specs.Forms.{formIn}
 use Rattle.sizing.proofs.CodeLaws.{all-next, all-stop, all-end}
 use Rattle.sizing.proofs.RightLaws.{form-length, form-at, form-wide}
 use borrow.Author.Needs.{needs}

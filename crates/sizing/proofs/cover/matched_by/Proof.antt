@@ -1,10 +1,10 @@
--- `sizing::matched_by` meets its contract: what is left to compare decides. Assumes nothing.
-use mathlib.Core.Path.{_≡_, refl, sym, ap, _∙_}
+-- What is left to compare decides.
+use mathlib.Core.Path.{_≡_, sym, _∙_}
 use native.Mathlib.Omega.{arith}
-use lib.ListN.{length, drop}
+use lib.ListN.{drop}
 use Rattle.rules.specs.Forms.{matches, atMost}
 use Rattle.sizing.proofs.CodeLaws.{matches-low, matches-high, atMost-next, atMost-stop, atMost-end}
-use Prim.Native.Nat.{ℕ, _≤_, _<_, _+_, _-_, _*_}
+use Prim.Native.Nat.{_≤_, _-_}
 use borrow.Author.Needs.{needs}
 use Rattle.sizing.proofs.cover.matched_by.Statement.{statement}
 use Rattle.sizing.proofs.cover.matched_by.Tie as tie

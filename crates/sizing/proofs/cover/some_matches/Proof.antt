@@ -1,13 +1,12 @@
--- `sizing::some_matches` meets its contract: what is left of the bound decides. Assumes nothing.
+-- What is left of the bound decides.
 use mathlib.Core.Path.{_≡_, refl, sym, ap, _∙_}
-use Prim.Native.Nat.{ℕ, _≤_, _<_, _+_, _-_, _*_}
+use Prim.Native.Nat.{_≤_, _-_}
 use native.Mathlib.Omega.{arith}
-use lib.ListN.{length, getD, take, drop}
-use lib.Seq.{getD-take, length-take-le}
-use Rattle.rules.specs.Base.{any, all}
+use lib.ListN.{drop}
+use Rattle.rules.specs.Base.{any}
 use Rattle.rules.specs.Forms.{matches}
-use Rattle.sizing.specs.Put.{noAlternative, Wide}
-use Rattle.sizing.specs.Forms.{formIn, FormRight}
+use Rattle.sizing.specs.Put.{noAlternative}
+use Rattle.sizing.specs.Forms.{formIn}
 use Rattle.sizing.proofs.CodeLaws.{any-next, any-stop, any-end}
 use Rattle.sizing.proofs.RightLaws.{form-length, form-at, form-wide}
 use borrow.Author.Needs.{needs}

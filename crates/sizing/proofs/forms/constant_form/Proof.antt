@@ -3,7 +3,6 @@ use mathlib.Core.Path.{refl}
 use native.Mathlib.Omega.{arith}
 use Rattle.rules.specs.Lists.{l[], _l∷_}
 use Rattle.rules.specs.Forms.{constantOnly}
-use borrow.Author.Needs.{needs}
 use Rattle.sizing.proofs.forms.constant_form.Statement.{statement}
 use Rattle.sizing.proofs.forms.constant_form.Tie as tie
 

@@ -1,10 +1,8 @@
--- `sizing::into_bound` meets its contract: the first i rows are done. Assumes nothing.
-use mathlib.Core.Path.{_≡_, refl, sym, ap, _∙_}
+-- The first i rows are done.
 use native.Mathlib.Omega.{arith}
-use lib.ListN.{length, getD, take, drop}
-use Rattle.sizing.specs.Forms.{formIn, FormRight, Made, argumentsIn, noRow}
+use Rattle.sizing.specs.Forms.{argumentsIn}
 use Rattle.sizing.proofs.BoundLaws.{Joining, joining-start, joining-next, joining-many, joining-over, joining-end}
-use Prim.Native.Nat.{ℕ, _≤_, _<_, _+_, _-_, _*_}
+use Prim.Native.Nat.{_≤_, _<_, _-_}
 use borrow.Author.Needs.{needs}
 use Rattle.sizing.proofs.forms.into_bound.Statement.{statement}
 use Rattle.sizing.proofs.forms.into_bound.Tie as tie

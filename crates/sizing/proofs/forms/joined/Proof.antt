@@ -1,15 +1,14 @@
--- `sizing::joined` meets its contract: the first i alternatives of y are appended. Assumes nothing.
-use mathlib.Core.Path.{_≡_, refl, sym, ap, _∙_}
-use mathlib.Core.List.{List, [], _∷_, _++_, map}
-use Prim.Native.Nat.{ℕ, _≤_, _<_, _+_, _-_, _*_}
+-- The first i alternatives of y are appended.
+use mathlib.Core.Path.{_≡_, refl, sym, _∙_}
+use mathlib.Core.List.{_++_, append-nil}
+use Prim.Native.Nat.{_≤_, _+_, _-_}
 use native.Mathlib.Omega.{arith}
 use native.Mathlib.Nat.{add-zero}
-use lib.ListN.{length, getD, take, drop, length-set}
+use lib.ListN.{length, getD, take, length-set}
 use Rattle.sizing.specs.Put.{noAlternative}
-use Rattle.sizing.specs.Forms.{formIn, FormRight}
+use Rattle.sizing.specs.Forms.{formIn}
 use Rattle.rules.proofs.ListLaws.{all-append}
 use Rattle.sizing.proofs.BuildLaws.{join-next}
-use mathlib.Core.List.{append-nil}
 use borrow.Author.Needs.{needs}
 use Rattle.sizing.proofs.forms.joined.Statement.{statement}
 use Rattle.sizing.proofs.forms.joined.Tie as tie

@@ -2,7 +2,6 @@
 use mathlib.Core.Path.{refl}
 use native.Mathlib.Omega.{arith}
 use Rattle.rules.specs.Lists.{l[]}
-use borrow.Author.Needs.{needs}
 use Rattle.sizing.proofs.forms.no_form.Statement.{statement}
 use Rattle.sizing.proofs.forms.no_form.Tie as tie
 

@@ -1,13 +1,9 @@
--- `sizing::plus` meets its contract: the coefficients before i are done. Assumes nothing.
-use mathlib.Core.Path.{_≡_, refl, sym, ap, _∙_}
-use mathlib.Core.List.{List, [], _∷_, _++_, map}
-use Prim.Native.Nat.{ℕ, _≤_, _<_, _+_, _-_, _*_}
+-- The coefficients before i are done.
+use mathlib.Core.Path.{refl}
+use Prim.Native.Nat.{ℕ, _≤_, _-_, _*_}
 use native.Mathlib.Omega.{arith}
-use native.Mathlib.Nat.{mul-le-mul, add-zero}
-use lib.ListN.{length, getD, take, drop}
-use Rattle.rules.specs.declared.records.Alternative.{Alternative}
-use Rattle.rules.specs.Forms.{added}
-use Rattle.sizing.specs.Put.{coefficient, Wide}
+use native.Mathlib.Nat.{mul-le-mul}
+use Rattle.sizing.specs.Put.{coefficient}
 use Rattle.sizing.proofs.BuildLaws.{Plus, plus-next, plus-end}
 use borrow.Author.Needs.{needs}
 use Rattle.sizing.proofs.forms.plus.Statement.{statement}

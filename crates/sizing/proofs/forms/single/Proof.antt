@@ -1,18 +1,9 @@
--- `sizing::single` meets its contract. Assumes nothing.
-use mathlib.Core.Path.{_≡_, refl, sym, ap, _∙_}
-use mathlib.Core.List.{List, [], _∷_, _++_, map}
-use mathlib.Core.Bool.{Bool, true, false}
-use Prim.Native.Nat.{ℕ, suc, _≤_, _<_, _+_, _-_, _*_}
+-- The one alternative stands first.
+use mathlib.Core.Path.{_≡_, refl, _∙_}
+use mathlib.Core.List.{[], _∷_}
+use Prim.Native.Nat.{_-_}
 use native.Mathlib.Omega.{arith}
-use lib.ListN.{length, getD, set, take, length-set}
-use lib.Seq.{getD-set-same, getD-set-other}
-use Rattle.rules.specs.Forms.{variableOnly}
-use Rattle.sizing.specs.Put.{noAlternative, Wide}
-use Rattle.sizing.specs.Splits.{carried, Carrying}
-use Rattle.sizing.specs.Forms.{formIn, FormRight, Single, noForm}
-use Rattle.sizing.specs.Steps.{FormsAsks, FormsAre}
-use Rattle.sizing.proofs.PutLaws.{variable-wide}
-use Rattle.sizing.proofs.SplitLaws.{carried-wide}
+use lib.ListN.{set, take, length-set}
 use Rattle.rules.specs.Lists.{l[], _l∷_}
 use Rattle.sizing.proofs.ListLaws.{take-stored}
 use borrow.Author.Needs.{needs}

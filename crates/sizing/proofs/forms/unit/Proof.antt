@@ -1,4 +1,4 @@
--- `unit` meets its contract: one store into zeros.
+-- It computes: a list of zeros with a 1 in place v.
 use mathlib.Core.Path.{refl}
 use Rattle.rules.specs.Forms.{variableOnly}
 use borrow.Author.Needs.{needs}

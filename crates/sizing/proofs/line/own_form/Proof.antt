@@ -1,9 +1,9 @@
 -- The first i rows are done.
 use mathlib.Core.Path.{_≡_, refl, sym, ap, _∙_}
-use mathlib.Core.List.{List, [], _∷_, _++_, map}
+use mathlib.Core.List.{[], _∷_, _++_, map}
 use Prim.Native.Nat.{_≤_, _+_, _-_}
 use native.Mathlib.Omega.{arith}
-use lib.ListN.{length, getD, take, length-set}
+use lib.ListN.{length, take, length-set}
 use Rattle.rules.specs.declared.records.Alternative.{Alternative}
 use Rattle.rules.proofs.ListLaws.{all-any, all-mapped}
 use Rattle.sizing.specs.Splits.{carried}

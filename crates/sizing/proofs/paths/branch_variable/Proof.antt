@@ -1,14 +1,8 @@
--- `sizing::branch_variable` meets its contract: one law for each way out. Assumes nothing.
+-- One law for each way out.
 use mathlib.Core.Path.{_≡_, refl, sym, ap, _∙_}
-use mathlib.Core.List.{List, [], _∷_, _++_, map}
-use mathlib.Core.Bool.{Bool, true, false}
-use Prim.Native.Nat.{ℕ, suc, _≤_, _<_, _+_, _-_, _*_}
+use Prim.Native.Nat.{ℕ, _+_, _-_}
 use native.Mathlib.Omega.{arith}
-use lib.ListN.{length, getD, set, take}
-use Rattle.rules.specs.Program.{arity}
-use Rattle.sizing.specs.Splits.{noSplit}
-use Rattle.sizing.specs.States.{stackIn, splitsIn, upFrom, Found, SameSplits, SplitMore}
-use Rattle.sizing.specs.Steps.{topOf, BranchAsks, BranchSays, Branching, arrowsOf, given}
+use Rattle.sizing.specs.Steps.{topOf}
 use Rattle.rules.proofs.ListLaws.{false-true}
 use Rattle.sizing.proofs.StateLaws.{found-whole}
 use Rattle.sizing.proofs.StepLaws.{branch-taken, branch-other, branch-over, branch-split}

@@ -1,18 +1,10 @@
--- `find_split` meets its contract: no split before the place is of the variable.
+-- No split before i is one of the variable.
 use borrow.Author.Count.{below-more}
--- `sizing::find_split` meets its contract: none of the splits before i is of v. Assumes nothing.
-use mathlib.Core.Path.{_≡_, refl, sym, ap, _∙_}
-use mathlib.Core.List.{List, [], _∷_, _++_, map}
-use Prim.Native.Nat.{ℕ, _≤_, _<_, _+_, _-_, _*_}
+use mathlib.Core.Path.{_≡_, sym}
+use Prim.Native.Nat.{ℕ, _≤_, _<_, _-_}
 use native.Mathlib.Omega.{arith}
-use native.Mathlib.Nat.{add-zero}
-use lib.ListN.{length, getD, set, take, drop, length-set}
-use lib.Seq.{getD-take}
+use lib.ListN.{getD}
 use Rattle.sizing.specs.Splits.{noSplit}
-use Rattle.sizing.specs.States.{stackIn, splitsIn, upFrom, Found, SameSplits, SplitMore}
-use mathlib.Core.List.{append-nil}
-use Rattle.sizing.proofs.ListLaws.{take-stored}
-use Rattle.sizing.proofs.StateLaws.{parts-next, up-none}
 use borrow.Author.Needs.{needs}
 use Rattle.sizing.proofs.paths.find_split.Statement.{statement}
 use Rattle.sizing.proofs.paths.find_split.Tie as tie

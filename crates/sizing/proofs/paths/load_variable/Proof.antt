@@ -1,16 +1,12 @@
--- `sizing::load_variable` meets its contract. Assumes nothing.
-use mathlib.Core.Path.{_≡_, refl, sym, ap, _∙_}
-use mathlib.Core.List.{List, [], _∷_, _++_, map}
-use Prim.Native.Nat.{ℕ, _≤_, _<_, _+_, _-_, _*_}
+-- The slot stands behind the stack.
+use mathlib.Core.Path.{refl, sym, ap, _∙_}
+use mathlib.Core.List.{[], _∷_, _++_}
+use Prim.Native.Nat.{ℕ, _+_, _-_}
 use native.Mathlib.Omega.{arith}
-use native.Mathlib.Nat.{add-zero}
-use lib.ListN.{length, getD, set, take, drop, length-set}
+use lib.ListN.{getD, length-set}
 use lib.Seq.{getD-take}
-use Rattle.sizing.specs.Splits.{noSplit}
-use Rattle.sizing.specs.States.{stackIn, splitsIn, upFrom, Found, SameSplits, SplitMore}
-use mathlib.Core.List.{append-nil}
+use Rattle.sizing.specs.States.{stackIn}
 use Rattle.sizing.proofs.ListLaws.{take-stored}
-use Rattle.sizing.proofs.StateLaws.{parts-next, up-none}
 use borrow.Author.Needs.{needs}
 use Rattle.sizing.proofs.paths.load_variable.Statement.{statement}
 use Rattle.sizing.proofs.paths.load_variable.Tie as tie

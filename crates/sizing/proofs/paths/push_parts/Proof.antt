@@ -1,15 +1,11 @@
--- `sizing::push_parts` meets its contract: the first i parts are pushed. Assumes nothing.
-use mathlib.Core.Path.{_≡_, refl, sym, ap, _∙_}
-use mathlib.Core.List.{List, [], _∷_, _++_, map}
-use Prim.Native.Nat.{ℕ, _≤_, _<_, _+_, _-_, _*_}
+-- The first i parts are pushed.
+use mathlib.Core.Path.{_≡_, refl, sym, _∙_}
+use mathlib.Core.List.{_++_, append-nil}
+use Prim.Native.Nat.{_≤_, _+_, _-_}
 use native.Mathlib.Omega.{arith}
 use native.Mathlib.Nat.{add-zero}
-use lib.ListN.{length, getD, set, take, drop, length-set}
-use lib.Seq.{getD-take}
-use Rattle.sizing.specs.Splits.{noSplit}
-use Rattle.sizing.specs.States.{stackIn, splitsIn, upFrom, Found, SameSplits, SplitMore}
-use mathlib.Core.List.{append-nil}
-use Rattle.sizing.proofs.ListLaws.{take-stored}
+use lib.ListN.{take, length-set}
+use Rattle.sizing.specs.States.{upFrom, SameSplits}
 use Rattle.sizing.proofs.StateLaws.{parts-next, up-none}
 use borrow.Author.Needs.{needs}
 use Rattle.sizing.proofs.paths.push_parts.Statement.{statement}

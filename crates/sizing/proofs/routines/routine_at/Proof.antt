@@ -1,5 +1,5 @@
 -- The head says the arity and how many rows and instructions there are.
-use mathlib.Core.Path.{_≡_, ap, _∙_}
+use mathlib.Core.Path.{ap, _∙_}
 use Prim.Native.Nat.{ℕ, _+_, _*_}
 use Rattle.rules.specs.declared.records.HeadRecord.{HeadRecord}
 use borrow.Author.Needs.{needs}

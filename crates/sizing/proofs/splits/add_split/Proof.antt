@@ -1,16 +1,15 @@
--- `sizing::add_split` meets its contract: what is left of the parts to add. Assumes nothing.
+-- What is left of the parts to add.
 use mathlib.Core.Path.{_≡_, refl, sym, ap, _∙_}
-use Prim.Native.Nat.{ℕ, _≤_, _<_, _+_, _-_, _*_}
+use Prim.Native.Nat.{ℕ, _≤_, _+_, _-_, _*_}
 use native.Mathlib.Omega.{arith}
 use native.Mathlib.Nat.{sub-zero, add-zero, mul-le-mul, le-trans}
-use lib.ListN.{length, getD}
 use Rattle.rules.specs.declared.records.Alternative.{Alternative}
 use Rattle.rules.specs.Forms.{added}
 use Rattle.sizing.specs.declared.splits.Split.{Split}
 use Rattle.sizing.specs.Put.{coefficient, cleared, put, Wide}
 use Rattle.sizing.specs.Splits.{spanned}
 use Rattle.sizing.proofs.PutLaws.{cleared-wide, cleared-below}
-use Rattle.sizing.proofs.CodeLaws.{bumped, bumped-wide, bumped-other, spanned-step, spanned-end}
+use Rattle.sizing.proofs.CodeLaws.{bumped-wide, bumped-other, spanned-step, spanned-end}
 use borrow.Author.Needs.{needs}
 use Rattle.sizing.proofs.splits.add_split.Statement.{statement}
 use Rattle.sizing.proofs.splits.add_split.Tie as tie

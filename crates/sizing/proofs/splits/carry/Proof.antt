@@ -1,13 +1,10 @@
--- `sizing::carry` meets its contract: what is left of the splits. Assumes nothing.
+-- What is left of the splits.
 use mathlib.Core.Path.{_≡_, refl, sym, ap, _∙_}
-use Prim.Native.Nat.{ℕ, _≤_, _<_, _+_, _-_, _*_}
+use Prim.Native.Nat.{ℕ, _≤_, _+_, _-_, _*_}
 use native.Mathlib.Omega.{arith}
-use lib.ListN.{length, getD, take, drop}
-use lib.Seq.{getD-take, length-take-le}
-use Rattle.sizing.specs.declared.splits.Split.{Split}
-use Rattle.sizing.specs.Put.{put}
-use Rattle.sizing.specs.Splits.{carried, splitA, Loose, Numbered, noSplit, Carrying}
-use Rattle.sizing.proofs.SplitLaws.{numbered-le}
+use lib.ListN.{length, take, drop}
+use lib.Seq.{length-take-le}
+use Rattle.sizing.specs.Splits.{carried, Loose, Numbered, Carrying}
 use Rattle.sizing.proofs.CodeLaws.{carried-end, carrying-asks, carrying-next, carrying-left}
 use borrow.Author.Needs.{needs}
 use Rattle.sizing.proofs.splits.carry.Statement.{statement}

@@ -1,9 +1,7 @@
 -- The slots hold what arrives at each instruction, and the whole walk comes out as what is left of it.
-use mathlib.Core.Path.{_≡_, sym, ap, _∙_}
-use Prim.Native.Nat.{ℕ, _+_, _-_, _≤_}
+use mathlib.Core.Path.{sym}
+use Prim.Native.Nat.{_+_, _-_}
 use native.Mathlib.Omega.{arith}
-use Rattle.rules.specs.declared.answers.Checked.{Checked}
-use Rattle.rules.specs.Answers.{toldCheck}
 use Rattle.rules.specs.Container.{payload}
 use Rattle.rules.specs.Records.{headOffset}
 use Rattle.sizing.specs.Routines.{RoutineIs}
