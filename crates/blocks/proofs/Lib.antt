@@ -1,6 +1,6 @@
 pub mod OpenLaws
 mod BlockLaws
-mod WriteLaws
+mod SumLaws
 pub mod PackLaws
 mod RoundLaws
 pub mod Round

@@ -12,9 +12,9 @@ use borrow.Rule.Slice.PartMut.{putMid}
 use borrow.Author.Tests.{le-leb, lt-leb}
 use Rattle.rules.specs.Base.{Refusal, refusal, found, refused, within}
 use Rattle.rules.specs.Container.{weighed, blockCheck, bytes2, bytes4, blockBody, block, blocksOf, blockCount, packed, pack, verified, unpack}
-use Rattle.rules.specs.Memory.{frontWritten}
-use Rattle.blocks.specs.Written.{overwritten, Put}
-use Rattle.blocks.proofs.WriteLaws.{front-grown, front-whole}
+use Rattle.rules.specs.Memory.{frontWritten, overwritten}
+use Rattle.rules.proofs.WriteLaws.{front-grown, front-whole}
+use Rattle.blocks.specs.Written.{Put}
 
 ---- The answers
 

@@ -18,7 +18,7 @@ use Rattle.rules.proofs.TriedLaws.{bind-found, required}
 use Rattle.blocks.specs.Round.{Bytes}
 use Rattle.blocks.proofs.BlockLaws.{fields-tested, block-tested}
 use Rattle.blocks.proofs.PackLaws.{body-length, check-whole}
-use Rattle.blocks.proofs.WriteLaws.{term-bound}
+use Rattle.blocks.proofs.SumLaws.{term-bound}
 
 ---- Zeros, sums, numbers in bytes
 

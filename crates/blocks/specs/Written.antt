@@ -1,13 +1,10 @@
 -- What the functions that write leave in a slice.
 use mathlib.Core.Path.{_≡_}
-use mathlib.Core.List.{List, _++_}
+use mathlib.Core.List.{List}
 use Prim.Native.Nat.{ℕ, _+_, _*_, _≤_}
-use lib.ListN.{length, take, drop}
+use lib.ListN.{length}
 use Rattle.rules.specs.Container.{weighed}
-
--- a list with these bytes from a place on
-abbrev pub overwritten : List ℕ → ℕ → List ℕ → List ℕ
-overwritten out at bytes = take at out ++ bytes ++ drop (at + length bytes) out
+use Rattle.rules.specs.Memory.{overwritten}
 
 -- bytes put into a block from a place on, and added to a sum of byte × (place + 1)
 pub record Put (out : List ℕ) (at : ℕ) (bytes : List ℕ) (sum : ℕ) (out′ : List ℕ) (sum′ : ℕ) : Type 0 where

@@ -24,4 +24,5 @@ pub mod ContainerLaws
 pub mod OutcomeLaws
 pub mod Judgements
 pub mod MemoryLaws
+pub mod WriteLaws
 pub mod CheckLaws

@@ -1,8 +1,8 @@
 -- What run, pack and unpack leave in the memory lent to them. Document 01, the last lines of "Numbers".
 use mathlib.Core.List.{List, _++_}
 use mathlib.Core.Bool.{Bool, true, false}
-use Prim.Native.Nat.{ℕ, _*_}
-use lib.ListN.{length, drop, replicate}
+use Prim.Native.Nat.{ℕ, _+_, _*_}
+use lib.ListN.{length, take, drop, replicate}
 use Rattle.rules.specs.Base.{Tried, found, refused, _>>=_}
 use Rattle.rules.specs.Container.{pack, unpack}
 use Rattle.rules.specs.Check.{checked}
@@ -12,6 +12,10 @@ use Rattle.rules.specs.Run.{Lent, Tables, usable, Ending, finished, abor
 
 abbrev pub frontWritten : List ℕ → List ℕ → List ℕ
 frontWritten bytes out = bytes ++ drop (length bytes) out
+
+-- a list with these bytes from a place on
+abbrev pub overwritten : List ℕ → ℕ → List ℕ → List ℕ
+overwritten out at bytes = take at out ++ bytes ++ drop (at + length bytes) out
 
 unfoldable pub copiedInto : List ℕ → Tried (List ℕ) → List ℕ
 copiedInto out (found bytes) = frontWritten bytes out

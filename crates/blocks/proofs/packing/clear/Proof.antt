@@ -3,7 +3,7 @@ use Prim.Native.Nat.{_≤_, _-_}
 use mathlib.Core.Path.{sym}
 use native.Mathlib.Omega.{arith}
 use lib.ListN.{replicate, length-replicate, getD-replicate}
-use Rattle.blocks.proofs.WriteLaws.{Pasted, pasted-start, pasted-next, pasted-end}
+use Rattle.rules.proofs.WriteLaws.{Pasted, pasted-start, pasted-next, pasted-end}
 use Rattle.blocks.proofs.packing.clear.Statement.{statement}
 use Rattle.blocks.proofs.packing.clear.Tie as tie
 

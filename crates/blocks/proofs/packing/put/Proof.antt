@@ -5,7 +5,8 @@ use native.Mathlib.Omega.{arith}
 use lib.ListN.{length, take, getD}
 use lib.Seq.{take-length}
 use Rattle.rules.specs.Container.{weighed}
-use Rattle.blocks.proofs.WriteLaws.{Pasted, pasted-start, pasted-next, pasted-end, term-bound, sum-start, sum-next}
+use Rattle.rules.proofs.WriteLaws.{Pasted, pasted-start, pasted-next, pasted-end}
+use Rattle.blocks.proofs.SumLaws.{term-bound, sum-start, sum-next}
 use Rattle.blocks.proofs.packing.put.Statement.{statement}
 use Rattle.blocks.proofs.packing.put.Tie as tie
 

@@ -4,7 +4,7 @@ use mathlib.Core.Path.{refl}
 use native.Mathlib.Nat.{zero-add}
 use native.Mathlib.Omega.{arith}
 use Rattle.rules.specs.Container.{payload}
-use Rattle.blocks.proofs.WriteLaws.{Pasted, pasted-start, pasted-next, pasted-end}
+use Rattle.rules.proofs.WriteLaws.{Pasted, pasted-start, pasted-next, pasted-end}
 use Rattle.blocks.proofs.unpacking.copy_payload.Statement.{statement}
 use Rattle.blocks.proofs.unpacking.copy_payload.Tie as tie
 

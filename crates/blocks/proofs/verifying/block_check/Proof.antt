@@ -5,7 +5,7 @@ use native.Mathlib.Omega.{arith}
 use lib.ListN.{take, getD}
 use Rattle.rules.specs.Container.{weighed, blockCheck}
 use Rattle.rules.proofs.ContainerLaws.{check-next}
-use Rattle.blocks.proofs.WriteLaws.{term-bound}
+use Rattle.blocks.proofs.SumLaws.{term-bound}
 use Rattle.blocks.proofs.verifying.block_check.Statement.{statement}
 use Rattle.blocks.proofs.verifying.block_check.Tie as tie
 

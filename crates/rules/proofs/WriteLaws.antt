@@ -1,17 +1,13 @@
--- A slice that is written byte by byte, and a sum of byte × place that grows with it.
+-- A slice that is written byte by byte from a place on.
 use mathlib.Core.Path.{_≡_, refl, _∙_}
-use mathlib.Core.List.{List, _++_, append-nil}
-use Prim.Native.Nat.{ℕ, _+_, _*_, _≤_, _<_}
+use mathlib.Core.List.{List, _++_, append-nil, append-assoc}
+use Prim.Native.Nat.{ℕ, _+_, _≤_, _<_}
 use native.Mathlib.Omega.{arith}
 use native.Mathlib.Numerals.{add-one}
-use native.Mathlib.Nat.{le-trans, mul-le-mul}
-use lib.Dec.{lit≤}
-use lib.ListN.{length, take, drop, getD, set, length-append, length-set, drop-of-length-le}
+use native.Mathlib.Nat.{zero-add, add-assoc}
+use lib.ListN.{length, take, drop, getD, set, length-append, length-take, length-set, drop-of-length-le}
 use lib.Seq.{paste, paste-zero, paste-suc, take-length, take-append-seam, drop-append-add, drop-drop}
-use Rattle.rules.specs.Container.{weighed}
-use Rattle.rules.specs.Memory.{frontWritten}
-use Rattle.rules.proofs.ContainerLaws.{weighed-next}
-use Rattle.blocks.specs.Written.{overwritten}
+use Rattle.rules.specs.Memory.{frontWritten, overwritten}
 
 ---- A loop that writes
 
@@ -41,7 +37,17 @@ module _ {out₀ : List ℕ} {at : ℕ} {bytes : List ℕ} where
       let e : i ≡ length bytes = omega (arith, p .within) in
       p .pasted ∙ rw (e, take-length bytes)
 
----- A front that grows
+---- Bytes behind bytes
+
+pub overwritten-more : (out a b : List ℕ) (at : ℕ) → at + length a ≤ length out → overwritten (overwritten out at a) (at + length a) b ≡ overwritten out at (a ++ b)
+overwritten-more out a b at h =
+    let w = take at out ++ a in
+    let e : at + length a ≡ length w = simp (length-append, length-take) (omega arith) in
+    rw (e, take-append-seam w (drop (length w) out), drop-append-add w (drop (length w) out) (length b), drop-drop, length-append a b, ← e, append-assoc (take at out) a b, add-assoc at (length a) (length b))
+
+-- a front is bytes from the start on
+pub front-start : (w out : List ℕ) → overwritten out 0 w ≡ frontWritten w out
+front-start w out = rw (zero-add (length w))
 
 -- bytes behind a front that is written
 pub front-grown : (w bytes out : List ℕ) (at : ℕ) → at ≡ length w → overwritten (frontWritten w out) at bytes ≡ frontWritten (w ++ bytes) out
@@ -51,19 +57,3 @@ front-grown w bytes out at e =
 -- a front that is as long as the slice
 pub front-whole : (w out : List ℕ) → length out ≤ length w → frontWritten w out ≡ w
 front-whole w out h = rw (drop-of-length-le out {i = length w} h, append-nil)
-
----- The sum
-
--- what one byte of a block adds to a sum
-pub term-bound : (x place : ℕ) → x < 256 → place < 512 → x * (place + 1) ≤ 130560
-term-bound x place hx hp = le-trans (mul-le-mul {n₁ = x} {m₁ = place + 1} {n₂ = 255} {m₂ = 512} (omega arith) (omega arith)) (lit≤ tt)
-
-pub sum-start : (k : ℕ) (bytes : List ℕ) (s : ℕ) → s ≡ s + weighed k (take 0 bytes)
-unfolding weighed
-sum-start k bytes s = omega arith
-
-pub sum-next : (at i : ℕ) (bytes : List ℕ) (s : ℕ) {t : ℕ} → i < length bytes → t ≡ s + weighed (at + 1) (take i bytes)
-    → t + getD bytes i 0 * (at + i + 1) ≡ s + weighed (at + 1) (take (i + 1) bytes)
-sum-next at i bytes s h e =
-    let n : at + i + 1 ≡ at + 1 + i = omega arith in
-    rw (add-one i, n) (omega (arith, weighed-next (at + 1) bytes i h))
