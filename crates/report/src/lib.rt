@@ -1,4 +1,6 @@
-// The number and the two places by which a refusal is reported.
+// The number and the two places by which a refusal is reported, and the line that tells a verdict.
+pub mod line;
+
 ghost use mathlib.Core.Path.{_≡_};
 ghost use Rattle.rules.specs.Answers.{refusalOf, at as refusalAt};
 ghost use Rattle.report.specs.Said.{said};

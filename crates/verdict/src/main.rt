@@ -1,47 +1,43 @@
-// Reads a program on standard input and writes one line: accepted, or refused with the number and the places.
+// Reads a program on standard input and writes one line: accepted with three counts, or refused with the number and the places.
+// Where the input cannot be read or the line cannot be written, the reason goes to standard error instead.
+ghost use mathlib.Core.Path.{_≡_};
+ghost use lib.ListN.{length};
+ghost use Rattle.io.specs.Counts.{Counts};
+ghost use Rattle.rules.specs.Check.{verdictOf};
+ghost use Rattle.rules.specs.Memory.{frontWritten};
+ghost use Rattle.report.specs.Line.{verdictLine};
 use libc::STDIN_FILENO;
 use libc::STDOUT_FILENO;
-use rules::answers::Counts;
-use rules::answers::Reason;
-use rules::answers::Verdict;
+use report::line::write_verdict;
 
-// Three numbers after a word, and the line's end.
-fn line(word: &[u8], first: u64, second: u64, third: u64) {
-    io::write_all(STDOUT_FILENO, word);
-    io::print_decimal(STDOUT_FILENO, first);
-    io::write_all(STDOUT_FILENO, b" ");
-    io::print_decimal(STDOUT_FILENO, second);
-    io::write_all(STDOUT_FILENO, b" ");
-    io::print_decimal(STDOUT_FILENO, third);
-    io::write_all(STDOUT_FILENO, b"\n");
+// The line of the verdict on a program, at the front of a buffer. The answer is its length.
+fn tell(program: &[u8], line: &mut [u8; 72]) -> usize
+    ensures { λ r. ⌜ Counts r (now (line .exit)) ⌝ }
+    ensures { λ r. ⌜ r ≡ length (verdictLine (verdictOf (now (program .entry)))) ⌝ }
+    ensures { λ _. ⌜ now (line .exit) ≡ frontWritten (verdictLine (verdictOf (now (program .entry)))) (now (line .entry)) ⌝ }
+{
+    write_verdict(verifier::check(program), line)
 }
 
-fn accepted(counts: Counts) {
-    line(
-        b"accepted ",
-        counts.types as u64,
-        counts.constructors as u64,
-        counts.functions as u64,
-    );
+// Whether nothing follows on standard input, and not because a read failed.
+fn at_end() -> bool {
+    let mut byte = [0u8; 1];
+    libc::read(STDIN_FILENO, &mut byte) == 0
 }
 
-fn refused(reason: Reason) {
-    let told = report::numbers_of(reason);
-    line(
-        b"refused ",
-        told.number as u64,
-        told.first as u64,
-        told.second as u64,
-    );
-}
-
-// One byte more than the longest program, so that a longer one is noticed.
+// One byte more than the longest program is read, so that a longer one is noticed.
 fn main() {
     let mut buffer = [0u8; 32769];
     let n = io::read_full(STDIN_FILENO, &mut buffer);
-    let verdict = verifier::check(&buffer[..n]);
-    match verdict {
-        Verdict::Accepted(counts) => accepted(counts),
-        Verdict::Refused(reason) => refused(reason),
+    if n < buffer.len() {
+        if !at_end() {
+            os::fail(b"standard input");
+            return;
+        }
+    }
+    let mut line = [0u8; 72];
+    let count = tell(&buffer[..n], &mut line);
+    if !io::write_all(STDOUT_FILENO, &line[..count]) {
+        os::fail(b"standard output");
     }
 }
