@@ -3,8 +3,8 @@ use crate::hex;
 use crate::tables;
 use crate::tables::Left;
 use libc::STDOUT_FILENO;
+use report::line::write_verdict;
 use rules::answers::Answer;
-use rules::answers::Counts;
 use rules::answers::Ending;
 use rules::answers::Length;
 use rules::answers::Reason;
@@ -36,19 +36,10 @@ fn refused(reason: Reason) {
     number(told.second as u64);
 }
 
-fn accepted(counts: Counts) {
-    text(b"accepted");
-    number(counts.types as u64);
-    number(counts.constructors as u64);
-    number(counts.functions as u64);
-}
-
 pub fn checked(verdict: Verdict) {
-    match verdict {
-        Verdict::Accepted(counts) => accepted(counts),
-        Verdict::Refused(reason) => refused(reason),
-    }
-    text(b"\n");
+    let mut line = [0u8; 72];
+    let n = write_verdict(verdict, &mut line);
+    text(&line[..n]);
 }
 
 fn length(answer: Length) -> usize {

@@ -97,104 +97,92 @@ fn run(
     answers::ran(answer, tables::found(cells, stack, frames), out);
 }
 
-// The tables stand on the native stack, most of which the writing of a deep result takes. So there are three sizes of them: for
-// most calls; 65,535 cells with few frames, which leaves room for a result of 65,535 levels; and the longest. Each answers false,
-// and does nothing, where a table is too short.
-
-fn run_small(line: &[u8], call: Call, sizes: Sizes) -> bool {
-    let cells = sizes.cells;
-    let stack = sizes.stack;
-    let frames = sizes.frames;
-    let out = sizes.out;
-    if 4096 < cells {
+// A run in the fronts of these tables. False, and nothing is done, where one is too short.
+fn run_in(
+    line: &[u8],
+    call: Call,
+    sizes: Sizes,
+    cells: &mut [u16],
+    stack: &mut [u16],
+    frames: &mut [u16],
+    out: &mut [u8],
+) -> bool {
+    let cell_count = sizes.cells;
+    let stack_count = sizes.stack;
+    let frame_count = sizes.frames;
+    let out_count = sizes.out;
+    if cells.len() < cell_count {
         return false;
     }
-    if 1024 < stack {
+    if stack.len() < stack_count {
         return false;
     }
-    if 768 < frames {
+    if frames.len() < frame_count {
         return false;
     }
-    if 4096 < out {
+    if out.len() < out_count {
         return false;
     }
-    let mut lent_cells = [tables::NUMBER; 4096];
-    let mut lent_stack = [tables::NUMBER; 1024];
-    let mut lent_frames = [tables::NUMBER; 768];
-    let mut lent_out = [tables::BYTE; 4096];
     run(
         line,
         call,
-        &mut lent_cells[0..cells],
-        &mut lent_stack[0..stack],
-        &mut lent_frames[0..frames],
-        &mut lent_out[0..out],
+        &mut cells[0..cell_count],
+        &mut stack[0..stack_count],
+        &mut frames[0..frame_count],
+        &mut out[0..out_count],
     );
     true
+}
+
+// The tables stand on the native stack, most of which the writing of a deep result takes. So there are three sizes of them: for
+// most calls; 65,535 cells with few frames, which leaves room for a result of 65,535 levels; and the longest.
+
+fn run_small(line: &[u8], call: Call, sizes: Sizes) -> bool {
+    let mut cells = [tables::NUMBER; 4096];
+    let mut stack = [tables::NUMBER; 1024];
+    let mut frames = [tables::NUMBER; 768];
+    let mut out = [tables::BYTE; 4096];
+    run_in(
+        line,
+        call,
+        sizes,
+        &mut cells,
+        &mut stack,
+        &mut frames,
+        &mut out,
+    )
 }
 
 fn run_deep(line: &[u8], call: Call, sizes: Sizes) -> bool {
-    let cells = sizes.cells;
-    let stack = sizes.stack;
-    let frames = sizes.frames;
-    let out = sizes.out;
-    if 327680 < cells {
-        return false;
-    }
-    if 8192 < stack {
-        return false;
-    }
-    if 12288 < frames {
-        return false;
-    }
-    if 70000 < out {
-        return false;
-    }
-    let mut lent_cells = [tables::NUMBER; 327680];
-    let mut lent_stack = [tables::NUMBER; 8192];
-    let mut lent_frames = [tables::NUMBER; 12288];
-    let mut lent_out = [tables::BYTE; 70000];
-    run(
+    let mut cells = [tables::NUMBER; 327680];
+    let mut stack = [tables::NUMBER; 8192];
+    let mut frames = [tables::NUMBER; 12288];
+    let mut out = [tables::BYTE; 70000];
+    run_in(
         line,
         call,
-        &mut lent_cells[0..cells],
-        &mut lent_stack[0..stack],
-        &mut lent_frames[0..frames],
-        &mut lent_out[0..out],
-    );
-    true
+        sizes,
+        &mut cells,
+        &mut stack,
+        &mut frames,
+        &mut out,
+    )
 }
 
 fn run_large(line: &[u8], call: Call, sizes: Sizes) -> bool {
-    let cells = sizes.cells;
-    let stack = sizes.stack;
-    let frames = sizes.frames;
-    let out = sizes.out;
-    if 700000 < cells {
-        return false;
-    }
-    if 80000 < stack {
-        return false;
-    }
-    if 210000 < frames {
-        return false;
-    }
-    if 70000 < out {
-        return false;
-    }
-    let mut lent_cells = [tables::NUMBER; 700000];
-    let mut lent_stack = [tables::NUMBER; 80000];
-    let mut lent_frames = [tables::NUMBER; 210000];
-    let mut lent_out = [tables::BYTE; 70000];
-    run(
+    let mut cells = [tables::NUMBER; 700000];
+    let mut stack = [tables::NUMBER; 80000];
+    let mut frames = [tables::NUMBER; 210000];
+    let mut out = [tables::BYTE; 70000];
+    run_in(
         line,
         call,
-        &mut lent_cells[0..cells],
-        &mut lent_stack[0..stack],
-        &mut lent_frames[0..frames],
-        &mut lent_out[0..out],
-    );
-    true
+        sizes,
+        &mut cells,
+        &mut stack,
+        &mut frames,
+        &mut out,
+    )
 }
 
 // The smallest tables that are long enough, of the first so many sizes. A loop over the sizes would do, but then the compiler

@@ -1,82 +1,26 @@
--- `cases::runs::run_large` is safe and ends: each part that it lends ends inside its table. Assumes nothing.
-use Rattle.cases.proofs.FillLaws.{within-filled}
+-- `cases::runs::run_large` is safe and ends: a filled table is as long as it is declared. Assumes nothing.
+use Rattle.cases.proofs.FillLaws.{filled-long}
 use borrow.Author.Needs.{needs}
 use Rattle.cases.proofs.runs.run_large.Statement.{statement}
 use Rattle.cases.proofs.runs.run_large.Tie as tie
 
+slice-aggregate-run-in : tie.Need-slice-aggregate-run-in
+slice-aggregate-run-in c = filled-long 700000 42405
+
+slice-aggregate-run-in-2 : tie.Need-slice-aggregate-run-in-2
+slice-aggregate-run-in-2 c = filled-long 80000 42405
+
+slice-aggregate-run-in-3 : tie.Need-slice-aggregate-run-in-3
+slice-aggregate-run-in-3 c = filled-long 210000 42405
+
+slice-aggregate-run-in-4 : tie.Need-slice-aggregate-run-in-4
+slice-aggregate-run-in-4 c = filled-long 70000 165
+
+run-in-requires : tie.Need-run-in-requires
+run-in-requires c κs = tt
+
 returns : tie.Need-returns
-returns c = search needs
-
-returns-2 : tie.Need-returns-2
-returns-2 c = search needs
-
-returns-3 : tie.Need-returns-3
-returns-3 c = search needs
-
-returns-4 : tie.Need-returns-4
-returns-4 c = search needs
-
-sub-run : tie.Need-sub-run
-sub-run c = search needs
-
-part-lent-cells-start : tie.Need-part-lent-cells-start
-part-lent-cells-start c = search needs
-
-part-lent-cells-end : tie.Need-part-lent-cells-end
-part-lent-cells-end c = within-filled 700000 42405 (c .before .before .before .if1 .left)
-
-sub-run-2 : tie.Need-sub-run-2
-sub-run-2 c = search needs
-
-part-lent-stack-start : tie.Need-part-lent-stack-start
-part-lent-stack-start c = search needs
-
-part-lent-stack-end : tie.Need-part-lent-stack-end
-part-lent-stack-end c = within-filled 80000 42405 (c .before .before .before .if2 .left)
-
-sub-run-3 : tie.Need-sub-run-3
-sub-run-3 c = search needs
-
-part-lent-frames-start : tie.Need-part-lent-frames-start
-part-lent-frames-start c = search needs
-
-part-lent-frames-end : tie.Need-part-lent-frames-end
-part-lent-frames-end c = within-filled 210000 42405 (c .before .before .before .if3 .left)
-
-sub-run-4 : tie.Need-sub-run-4
-sub-run-4 c = search needs
-
-part-lent-out-start : tie.Need-part-lent-out-start
-part-lent-out-start c = search needs
-
-part-lent-out-end : tie.Need-part-lent-out-end
-part-lent-out-end c = within-filled 70000 165 (c .before .before .before .if4 .left)
-
-run-requires : tie.Need-run-requires
-run-requires c κs = search needs
-
-returns-5 : tie.Need-returns-5
-returns-5 c = search needs
+returns c = tt
 
 pub run-large-spec : {M : Type 1} → statement M
-run-large-spec =
-    tie.close
-    (tie.spec
-    returns
-    returns-2
-    returns-3
-    returns-4
-    sub-run
-    part-lent-cells-start
-    part-lent-cells-end
-    sub-run-2
-    part-lent-stack-start
-    part-lent-stack-end
-    sub-run-3
-    part-lent-frames-start
-    part-lent-frames-end
-    sub-run-4
-    part-lent-out-start
-    part-lent-out-end
-    run-requires
-    returns-5)
+run-large-spec = tie.close (tie.spec slice-aggregate-run-in slice-aggregate-run-in-2 slice-aggregate-run-in-3 slice-aggregate-run-in-4 run-in-requires returns)
