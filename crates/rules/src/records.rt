@@ -51,8 +51,9 @@ pub enum Instruction {
 }
 
 // A max-plus alternative: a sum of coefficient × size, and a constant. In a size bound there is a coefficient for each
-// argument, in a size form one for each of 16 variables.
+// argument, in a size form one for each of 16 variables. Those of a form that four covered entries make are at most 900, so that 16
+// bits hold them: forms go by value, and their size is what the check spends its time on.
 pub struct Alternative {
-    pub coefficients: [u32; 16],
+    pub coefficients: [u16; 16],
     pub constant: u32,
 }

@@ -1,5 +1,5 @@
 -- A bound at forms, row by row.
-use mathlib.Core.Path.{_≡_, sym, ap, _∙_}
+use mathlib.Core.Path.{_≡_, sym, ap, _∙_, subst}
 use mathlib.Core.List.{List, _++_}
 use Prim.Native.Nat.{ℕ, _+_, _-_, _≤_, _<_}
 use native.Mathlib.Omega.{arith}
@@ -89,3 +89,12 @@ module _ (n : ℕ) (b : Bound) (forms : List Form) (r : BoundRight b) where
       let l = bound-length in
       let t : take i (boundIn n b) ≡ boundIn n b = take-all i (boundIn n b) (omega arith) in
       record { many = λ z. absurd (omega arith); right = λ g. (j .right, j .same ∙ ap (λ (a : List Alternative). intoBound a forms) t) }
+
+  -- one row alone
+  pub only-row : b .count ≡ 1 → (y : code.Form) → Made y (rowForm n (getD (b .rows) 0 noRow) forms) → Made y (intoBound (boundIn n b) forms)
+  unfolding intoBound flatMap
+  only-row e y m =
+      let l = bound-length in
+      let t : take 1 (boundIn n b) ≡ boundIn n b = take-all 1 (boundIn n b) (omega arith) in
+      let is : intoBound (boundIn n b) forms ≡ rowForm n (getD (b .rows) 0 noRow) forms = ap (λ (a : List Alternative). intoBound a forms) (sym t) ∙ bound-next 0 (omega arith) in
+      subst (Made y) (sym is) m

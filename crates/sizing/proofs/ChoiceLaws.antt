@@ -17,7 +17,7 @@ use Rattle.sizing.specs.Put.{Below, AllBelow, noAlternative}
 use Rattle.sizing.specs.Forms.{formIn, FormRight, Entry, Made, choices}
 use Rattle.sizing.proofs.ListLaws.{getD-of-map, take-stored}
 use Rattle.sizing.proofs.RightLaws.{form-length, form-at}
-use Rattle.sizing.proofs.BuildLaws.{flat-length, flat-below, below-get, below-wide, choices-none, choices-some, some-made}
+use Rattle.sizing.proofs.BuildLaws.{flat-length, flat-below, below-get, below-wide, choices-some, some-made}
 
 flat-at : (f : Alternative → Alternative → Alternative) (rest xs : Form) (i : ℕ) → 0 < length rest → i < length xs * length rest
     → getD (flatMap (λ c. map (f c) rest) xs) i noAlternative ≡ f (getD xs (i / length rest) noAlternative) (getD rest (i % length rest) noAlternative)
@@ -53,7 +53,7 @@ module _ (m : ℕ) (form rest : code.Form) where
     pub long : length (x .alternatives) ≡ 16
     pub same : take i (x .alternatives) ≡ take i all-choices
 
-module _ (m : ℕ) (form rest : code.Form) (h : Entry form) (r : FormRight rest) (p : 0 < rest .count) (b : AllBelow 1048576 16777216 (formIn rest)) where
+module _ (m : ℕ) (form rest : code.Form) (h : Entry form) (r : FormRight rest) (p : 0 < rest .count) (b : AllBelow 32768 16777216 (formIn rest)) where
   many : length (all-choices m form rest) ≡ form .count * rest .count
   unfolding all-choices
   many = flat-length (added m) (formIn rest) (formIn form) ∙ rw (form-length form (h .right), form-length rest r)
@@ -69,12 +69,12 @@ module _ (m : ℕ) (form rest : code.Form) (h : Entry form) (r : FormRight rest)
     pub choice-second : i % rest .count < rest .count
     choice-second = mod-lt i p
 
-    pub choice-below : Below 15 131072 (getD (form .alternatives) (i / rest .count) noAlternative) × Below 1048576 16777216 (getD (rest .alternatives) (i % rest .count) noAlternative)
+    pub choice-below : Below 15 131072 (getD (form .alternatives) (i / rest .count) noAlternative) × Below 32768 16777216 (getD (rest .alternatives) (i % rest .count) noAlternative)
     choice-below =
         let n = form-length form (h .right) in let k = form-length rest r in
         let u = choice-first in let v = choice-second in (
           rw (form-at form (h .right) (i / rest .count) u) at (below-get 15 131072 (formIn form) (i / rest .count) (h .below) (omega arith)),
-          rw (form-at rest r (i % rest .count) v) at (below-get 1048576 16777216 (formIn rest) (i % rest .count) b (omega arith)),
+          rw (form-at rest r (i % rest .count) v) at (below-get 32768 16777216 (formIn rest) (i % rest .count) b (omega arith)),
         )
 
     pub choosing-next : form .count * rest .count ≤ 16 → (x : code.Form) (v : Alternative) → Choosing m form rest i x
@@ -103,7 +103,7 @@ module _ (m : ℕ) (form rest : code.Form) (h : Entry form) (r : FormRight rest)
       record {
         many = λ z. absurd (some-made (form .count) (rest .count) (h .some) p z);
         right = λ g. (
-          record { few = few; long = c .long; wide = rw is (below-wide (1048576 + m * 15) (16777216 + m * 131072) (all-choices m form rest) (flat-below m 15 131072 1048576 16777216 (formIn rest) (formIn form) (h .below) b)) },
+          record { few = few; long = c .long; wide = rw is (below-wide (32768 + m * 15) (16777216 + m * 131072) (all-choices m form rest) (flat-below m 15 131072 32768 16777216 (formIn rest) (formIn form) (h .below) b)) },
           is ∙ sym (choices-some m (formIn form) (formIn rest) n),
         );
       }
@@ -113,6 +113,3 @@ module _ (m : ℕ) (form rest : code.Form) (h : Entry form) (r : FormRight rest)
   choosing-many n g x z =
       let e = ap length (choices-some m (formIn form) (formIn rest) n) in let l = many in
       record { many = λ _. omega arith; right = λ q. absurd (omega arith) }
-
-  pub choosing-none : m ≡ 0 → Made rest (choices m (formIn form) (formIn rest))
-  choosing-none z = record { many = λ e. absurd (omega arith); right = λ g. (r, sym (choices-none m (formIn form) (formIn rest) z)) }

@@ -15,7 +15,7 @@ use Rattle.sizing.specs.Put.{AllBelow}
 use Rattle.sizing.specs.Forms.{formIn, FormRight, Entry, Made, choices, noForm, argumentsIn, RowRight, Arguments}
 use Rattle.sizing.proofs.PutLaws.{constant-wide, constant-at}
 use Rattle.sizing.proofs.RightLaws.{form-length}
-use Rattle.sizing.proofs.BuildLaws.{flat-length, flat-below, below-more}
+use Rattle.sizing.proofs.BuildLaws.{flat-length, flat-below, below-more, choices-none}
 
 abbrev pub EachSome : List Form → Type 0
 EachSome [] = Unit {0}
@@ -127,8 +127,14 @@ module _ (row : AlternativeRecord) (n : ℕ) (arguments : List code.Form) (r : R
           subst-step (take n (row .coefficients)) (argumentsIn arguments n) (row .constant) k (omega arith) (omega arith)
           ∙ rw (getD-take n (row .coefficients) k 0 h, argument-at k h, ← add-one k) (ap (choices (getD (row .coefficients) k 0) (formIn (getD arguments k noForm))) (sym (p .same)))
 
-  pub substituting-asks : (k : ℕ) (rest : code.Form) → k < n → Substituting row n arguments (k + 1) rest
-      → (getD (row .coefficients) k 0 ≤ 15) × Entry (getD arguments k noForm) × FormRight rest × (0 < rest .count) × AllBelow 1048576 16777216 (formIn rest)
-  substituting-asks k rest h p =
+  -- an argument with coefficient 0 has no part
+  pub substituting-skip : (k : ℕ) (rest : code.Form) → k < n → Substituting row n arguments (k + 1) rest → getD (row .coefficients) k 0 ≡ 0 → Substituting row n arguments k rest
+  substituting-skip k rest h p e =
+      let s = p .some in
+      substituting-next k rest rest h p (record { many = λ z. absurd (omega arith); right = λ g. (p .right, sym (choices-none (getD (row .coefficients) k 0) (formIn (getD arguments k noForm)) (formIn rest) e)) }) .0 (λ z. omega arith)
+
+  pub substituting-asks : (k : ℕ) (rest : code.Form) → k < n → Substituting row n arguments (k + 1) rest → (getD (row .coefficients) k 0 ≡ 0 → ⊥)
+      → (getD (row .coefficients) k 0 ≤ 15) × Entry (getD arguments k noForm) × FormRight rest × (0 < rest .count) × AllBelow 32768 16777216 (formIn rest) × (0 < getD (row .coefficients) k 0)
+  substituting-asks k rest h p m =
       let f = a .few in
-      (r .small k, a .entries k h, p .right, p .some, below-more (225 * (n - (k + 1))) (65535 + 1966080 * (n - (k + 1))) 1048576 16777216 (formIn rest) (omega arith) (omega arith) (p .below))
+      (r .small k, a .entries k h, p .right, p .some, below-more (225 * (n - (k + 1))) (65535 + 1966080 * (n - (k + 1))) 32768 16777216 (formIn rest) (omega arith) (omega arith) (p .below), omega (arith, m))

@@ -26,7 +26,7 @@ pub fn unit(v: usize) -> Alternative
     requires { ⌜ v < 16 ⌝ }
     ensures { λ r. ⌜ r ≡ variableOnly v ⌝ }
 {
-    let mut c = [0u32; 16];
+    let mut c = [0u16; 16];
     c[v] = 1;
     Alternative {
         coefficients: c,
@@ -40,7 +40,7 @@ pub fn no_form() -> Form
 {
     Form {
         alternatives: [Alternative {
-            coefficients: [0u32; 16],
+            coefficients: [0u16; 16],
             constant: 0,
         }; 16],
         count: 0,
@@ -53,7 +53,7 @@ pub fn constant_form(w: u32) -> Form
 {
     Form {
         alternatives: [Alternative {
-            coefficients: [0u32; 16],
+            coefficients: [0u16; 16],
             constant: w,
         }; 16],
         count: 1,
@@ -72,8 +72,8 @@ pub fn single(a: Alternative) -> Form
 }
 
 // a and m times b.
-pub fn plus(m: u32, b: Alternative, a: Alternative) -> Alternative
-    requires { ⌜ (m ≤ 15) × Below 15 131072 b × Below 1048576 16777216 a ⌝ }
+pub fn plus(m: u16, b: Alternative, a: Alternative) -> Alternative
+    requires { ⌜ (m ≤ 15) × Below 15 131072 b × Below 32768 16777216 a ⌝ }
     ensures { λ r. ⌜ r ≡ added m b a ⌝ }
 {
     let mut r = a;
@@ -82,19 +82,15 @@ pub fn plus(m: u32, b: Alternative, a: Alternative) -> Alternative
         r.coefficients[i] = a.coefficients[i] + m * b.coefficients[i];
         i += 1;
     }
-    r.constant = a.constant + m * b.constant;
+    r.constant = a.constant + (m as u32) * b.constant;
     r
 }
 
-// Every choice: an alternative of rest with m times one of form, which stands for rest alone where m is 0.
-// None where there are more than 16.
-pub fn chosen(m: u32, form: Form, rest: Form) -> Form
-    requires { ⌜ (m ≤ 15) × Entry form × FormRight rest × (0 < rest .count) × AllBelow 1048576 16777216 (formIn rest) ⌝ }
+// Every choice: an alternative of rest with m times one of form. None where there are more than 16.
+pub fn chosen(m: u16, form: Form, rest: Form) -> Form
+    requires { ⌜ (m ≤ 15) × Entry form × FormRight rest × (0 < rest .count) × AllBelow 32768 16777216 (formIn rest) × (0 < m) ⌝ }
     ensures { λ x. ⌜ Made x (choices m (formIn form) (formIn rest)) ⌝ }
 {
-    if m == 0 {
-        return rest;
-    }
     let mut x = no_form();
     let k = rest.count;
     let n = form.count * k;
@@ -112,7 +108,8 @@ pub fn chosen(m: u32, form: Form, rest: Form) -> Form
     x
 }
 
-// The forms of n arguments put into an alternative of a bound; none where there are more than 16.
+// The forms of n arguments put into an alternative of a bound, where an argument with coefficient 0 has no part; none where there
+// are more than 16.
 pub fn substitute(row: AlternativeRecord, n: usize, arguments: [Form; 4]) -> Form
     requires { ⌜ RowRight row × Arguments arguments n ⌝ }
     ensures { λ x. ⌜ Made x (substituted (take n (row .coefficients)) (row .constant) (argumentsIn arguments n)) ⌝ }
@@ -121,13 +118,16 @@ pub fn substitute(row: AlternativeRecord, n: usize, arguments: [Form; 4]) -> For
     let mut t = n;
     while t > 0 {
         let k = t - 1;
-        let f = arguments[k];
-        rest = chosen(row.coefficients[k] as u32, f, rest);
+        let m = row.coefficients[k] as u16;
+        t = k;
+        if m == 0 {
+            continue;
+        }
+        rest = chosen(m, arguments[k], rest);
         let made = rest.count;
         if made == 0 {
             return rest;
         }
-        t = k;
     }
     rest
 }
@@ -150,12 +150,15 @@ pub fn joined(r: Form, y: Form) -> Form
     x
 }
 
-// The forms of n arguments put into a bound; none where there are more than 16.
+// The forms of n arguments put into a bound; none where there are more than 16. A build has one row, and nothing is joined then.
 pub fn into_bound(bound: Bound, n: usize, arguments: [Form; 4]) -> Form
     requires { ⌜ BoundRight bound × Arguments arguments n ⌝ }
     ensures { λ x. ⌜ Made x (intoBound (boundIn n bound) (argumentsIn arguments n)) ⌝ }
 {
     let k = bound.count;
+    if k == 1 {
+        return substitute(bound.rows[0], n, arguments);
+    }
     let mut x = no_form();
     let mut i: usize = 0;
     while i < k {

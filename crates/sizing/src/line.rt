@@ -30,11 +30,11 @@ pub fn widen(row: AlternativeRecord) -> Alternative
     ensures { λ r. ⌜ r ≡ widened 0 (row .coefficients) (row .constant) ⌝ }
 {
     let cs = row.coefficients;
-    let mut c = [0u32; 16];
-    c[0] = cs[0] as u32;
-    c[1] = cs[1] as u32;
-    c[2] = cs[2] as u32;
-    c[3] = cs[3] as u32;
+    let mut c = [0u16; 16];
+    c[0] = cs[0] as u16;
+    c[1] = cs[1] as u16;
+    c[2] = cs[2] as u16;
+    c[3] = cs[3] as u16;
     Alternative {
         coefficients: c,
         constant: row.constant as u32,

@@ -38,7 +38,7 @@ pub fn add_split(a: Alternative, p: Split) -> Alternative
         r.coefficients[first + j] = r.coefficients[first + j] + c;
         j += 1;
     }
-    r.constant = a.constant + c * w;
+    r.constant = a.constant + (c as u32) * w;
     r
 }
 

@@ -1,7 +1,7 @@
 -- The first i rows are done.
 use native.Mathlib.Omega.{arith}
 use Rattle.sizing.specs.Forms.{argumentsIn}
-use Rattle.sizing.proofs.BoundLaws.{Joining, joining-start, joining-next, joining-many, joining-over, joining-end}
+use Rattle.sizing.proofs.BoundLaws.{Joining, joining-start, joining-next, joining-many, joining-over, joining-end, only-row}
 use Prim.Native.Nat.{_≤_, _<_, _-_}
 use borrow.Author.Needs.{needs}
 use Rattle.sizing.proofs.forms.into_bound.Statement.{statement}
@@ -13,12 +13,26 @@ Inv-loop n arguments bound k x₀ i₀ x i = (i ≤ k) × Joining n bound (argum
 abbrev μ-loop : tie.MeasureT-loop
 μ-loop n arguments bound k x₀ i₀ x i = k - i
 
+element-copy-out-substitute : tie.Need-element-copy-out-substitute Inv-loop μ-loop
+element-copy-out-substitute c = search needs
+
+substitute-requires : tie.Need-substitute-requires Inv-loop μ-loop
+substitute-requires c κs =
+    let s = c .before .before in
+    let z = s .pre .0 .some in
+    (s .pre .0 .each 0 z, s .pre .1)
+
+returns : tie.Need-returns Inv-loop μ-loop
+returns c =
+    let s = c .before .before .before in
+    only-row (s .args .n) (s .args .t1) (argumentsIn (s .args .arguments) (s .args .n)) (s .pre .0) (c .before .before .if1 .taken) (c .substitute .result) (c .substitute .ensures)
+
 no-form-requires : tie.Need-no-form-requires Inv-loop μ-loop
 no-form-requires c κs = search needs
 
 loop-holds : tie.Need-loop-holds Inv-loop μ-loop
 loop-holds c =
-    let s = c .before in
+    let s = c .before .before in
     (search needs, joining-start (s .args .n) (s .args .t1) (argumentsIn (s .args .arguments) (s .args .n)) (s .pre .0) (c .no-form .result) (c .no-form .ensures .0) (c .no-form .ensures .1))
 
 mul-row : tie.Need-mul-row Inv-loop μ-loop
@@ -27,48 +41,48 @@ mul-row c = search needs
 element-copy-out-row : tie.Need-element-copy-out-row Inv-loop μ-loop
 element-copy-out-row c = search needs
 
-substitute-requires : tie.Need-substitute-requires Inv-loop μ-loop
-substitute-requires c κs =
-    let s = c .before .before .before .before in
+substitute-requires-2 : tie.Need-substitute-requires-2 Inv-loop μ-loop
+substitute-requires-2 c κs =
+    let s = c .before .before .before .before .before in
     (s .pre .0 .each (c .before .before .loop .i) (c .before .loop-test .taken), s .pre .1)
 
-returns : tie.Need-returns Inv-loop μ-loop
-returns c =
-    let s = c .before .before .before .before .before .before in
+returns-2 : tie.Need-returns-2 Inv-loop μ-loop
+returns-2 c =
+    let s = c .before .before .before .before .before .before .before in
     let l = c .before .before .before .before .loop in
-    let z = c .if1 .taken in
+    let z = c .if2 .taken in
     record {
-      many = joining-many (s .args .n) (s .args .t1) (argumentsIn (s .args .arguments) (s .args .n)) (s .pre .0) (l .i) (c .before .before .before .loop-test .taken) (l .x) (c .before .substitute .result) (l .inv .1) (c .before .substitute .ensures);
+      many = joining-many (s .args .n) (s .args .t1) (argumentsIn (s .args .arguments) (s .args .n)) (s .pre .0) (l .i) (c .before .before .before .loop-test .taken) (l .x) (c .before .substitute2 .result) (l .inv .1) (c .before .substitute2 .ensures);
       right = λ g. absurd (omega arith);
     }
 
-add-if2 : tie.Need-add-if2 Inv-loop μ-loop
-add-if2 c =
+add-if3 : tie.Need-add-if3 Inv-loop μ-loop
+add-if3 c =
     let l = c .before .before .before .before .loop in
-    let z : 0 < c .before .substitute .result .count = omega (arith, c .if1 .left) in
+    let z : 0 < c .before .substitute2 .result .count = omega (arith, c .if2 .left) in
     let a = l .inv .1 .right .few in
-    let b = c .before .substitute .ensures .right z .0 .few in
+    let b = c .before .substitute2 .ensures .right z .0 .few in
     omega arith
 
 no-form-requires-2 : tie.Need-no-form-requires-2 Inv-loop μ-loop
 no-form-requires-2 c κs = search needs
 
-returns-2 : tie.Need-returns-2 Inv-loop μ-loop
-returns-2 c =
-    let s = c .before .before .before .before .before .before .before .before in
+returns-3 : tie.Need-returns-3 Inv-loop μ-loop
+returns-3 c =
+    let s = c .before .before .before .before .before .before .before .before .before in
     let l = c .before .before .before .before .before .before .loop in
     let z = c .no-form2 .ensures .1 in
     record {
-      many = λ g. joining-over (s .args .n) (s .args .t1) (argumentsIn (s .args .arguments) (s .args .n)) (s .pre .0) (l .i) (c .before .before .before .before .before .loop-test .taken) (l .x) (c .before .before .before .substitute .result) (l .inv .1) (c .before .before .before .substitute .ensures) (c .before .before .if1 .left) (c .before .if2 .taken);
+      many = λ g. joining-over (s .args .n) (s .args .t1) (argumentsIn (s .args .arguments) (s .args .n)) (s .pre .0) (l .i) (c .before .before .before .before .before .loop-test .taken) (l .x) (c .before .before .before .substitute2 .result) (l .inv .1) (c .before .before .before .substitute2 .ensures) (c .before .before .if2 .left) (c .before .if3 .taken);
       right = λ g. absurd (omega arith);
     }
 
 joined-requires : tie.Need-joined-requires Inv-loop μ-loop
 joined-requires c κs =
     let l = c .before .before .before .before .before .loop in
-    let y = c .before .before .substitute .ensures in
-    let z : 0 < c .before .before .substitute .result .count = omega (arith, c .before .if1 .left) in
-    (l .inv .1 .right, y .right z .0, c .if2 .left)
+    let y = c .before .before .substitute2 .ensures in
+    let z : 0 < c .before .before .substitute2 .result .count = omega (arith, c .before .if2 .left) in
+    (l .inv .1 .right, y .right z .0, c .if3 .left)
 
 add-i : tie.Need-add-i Inv-loop μ-loop
 add-i c = search needs
@@ -78,16 +92,16 @@ loop-less c = search needs
 
 loop-again : tie.Need-loop-again Inv-loop μ-loop
 loop-again c =
-    let s = c .before .before .before .before .before .before .before .before in
+    let s = c .before .before .before .before .before .before .before .before .before in
     let l = c .before .before .before .before .before .before .loop in
     let e = c .joined .ensures in (
       search needs,
-      joining-next (s .args .n) (s .args .t1) (argumentsIn (s .args .arguments) (s .args .n)) (s .pre .0) (l .i) (c .before .before .before .before .before .loop-test .taken) (l .x) (c .before .before .before .substitute .result) (l .inv .1) (c .before .before .before .substitute .ensures) (c .joined .result) (c .before .before .if1 .left) (e .0) (e .1) (e .2),
+      joining-next (s .args .n) (s .args .t1) (argumentsIn (s .args .arguments) (s .args .n)) (s .pre .0) (l .i) (c .before .before .before .before .before .loop-test .taken) (l .x) (c .before .before .before .substitute2 .result) (l .inv .1) (c .before .before .before .substitute2 .ensures) (c .joined .result) (c .before .before .if2 .left) (e .0) (e .1) (e .2),
     )
 
-returns-3 : tie.Need-returns-3 Inv-loop μ-loop
-returns-3 c =
-    let s = c .before .before .before in
+returns-4 : tie.Need-returns-4 Inv-loop μ-loop
+returns-4 c =
+    let s = c .before .before .before .before in
     let l = c .before .loop in
     joining-end (s .args .n) (s .args .t1) (argumentsIn (s .args .arguments) (s .args .n)) (s .pre .0) (l .i) (l .x) (omega arith) (l .inv .1)
 
@@ -97,17 +111,20 @@ into-bound-spec =
     (tie.spec
     Inv-loop
     μ-loop
+    element-copy-out-substitute
+    substitute-requires
+    returns
     no-form-requires
     loop-holds
     mul-row
     element-copy-out-row
-    substitute-requires
-    returns
-    add-if2
-    no-form-requires-2
+    substitute-requires-2
     returns-2
+    add-if3
+    no-form-requires-2
+    returns-3
     joined-requires
     add-i
     loop-less
     loop-again
-    returns-3)
+    returns-4)

@@ -2,7 +2,7 @@
 use mathlib.Core.Path.{_≡_}
 use Prim.Native.Nat.{_≤_, _+_, _-_}
 use native.Mathlib.Omega.{arith}
-use Rattle.sizing.proofs.SubstLaws.{Substituting, substituting-start, substituting-asks, substituting-next}
+use Rattle.sizing.proofs.SubstLaws.{Substituting, substituting-start, substituting-skip, substituting-asks, substituting-next}
 use borrow.Author.Needs.{needs}
 use Rattle.sizing.proofs.forms.substitute.Statement.{statement}
 use Rattle.sizing.proofs.forms.substitute.Tie as tie
@@ -25,29 +25,46 @@ loop-holds c = let e = c .constant-form .ensures in (search needs, substituting-
 sub-k : tie.Need-sub-k Inv-loop μ-loop
 sub-k c = search needs
 
-mul-f : tie.Need-mul-f Inv-loop μ-loop
-mul-f c = let z = c .before .before .before .pre .1 .few in omega arith
+element-copy-out-m : tie.Need-element-copy-out-m Inv-loop μ-loop
+element-copy-out-m c = search needs
 
-array-copy-out-f : tie.Need-array-copy-out-f Inv-loop μ-loop
-array-copy-out-f c = let z = c .before .before .before .pre .1 .few in omega arith
-
-element-copy-out-chosen : tie.Need-element-copy-out-chosen Inv-loop μ-loop
-element-copy-out-chosen c = search needs
-
-cast-chosen : tie.Need-cast-chosen Inv-loop μ-loop
-cast-chosen c = omega (arith, c .before .before .before .before .before .pre .0 .small (c .before .before .before .loop .t - 1))
-
-chosen-requires : tie.Need-chosen-requires Inv-loop μ-loop
-chosen-requires c κs = let e : c .before .before .before .loop .t ≡ c .before .before .before .loop .t - 1 + 1 = omega arith in substituting-asks (c .before .before .before .before .before .args .t1) (c .before .before .before .before .before .args .n) (c .before .before .before .before .before .args .t3) (c .before .before .before .before .before .pre .0) (c .before .before .before .before .before .pre .1) (c .before .before .before .loop .t - 1) (c .before .before .before .loop .rest) (omega arith) (rw e at (c .before .before .before .loop .inv .1))
-
-returns : tie.Need-returns Inv-loop μ-loop
-returns c = let e : c .before .before .before .before .before .loop .t ≡ c .before .before .before .before .before .loop .t - 1 + 1 = omega arith in let q = substituting-next (c .before .before .before .before .before .before .before .args .t1) (c .before .before .before .before .before .before .before .args .n) (c .before .before .before .before .before .before .before .args .t3) (c .before .before .before .before .before .before .before .pre .0) (c .before .before .before .before .before .before .before .pre .1) (c .before .before .before .before .before .loop .t - 1) (c .before .before .before .before .before .loop .rest) (c .before .chosen .result) (omega arith) (rw e at (c .before .before .before .before .before .loop .inv .1)) (c .before .chosen .ensures) in let z = c .if1 .taken in record { many = q .1; right = λ g. absurd (omega arith) }
+cast-m : tie.Need-cast-m Inv-loop μ-loop
+cast-m c = omega (arith, c .before .before .before .before .pre .0 .small (c .before .before .loop .t - 1))
 
 loop-less : tie.Need-loop-less Inv-loop μ-loop
 loop-less c = search needs
 
 loop-again : tie.Need-loop-again Inv-loop μ-loop
-loop-again c = let e : c .before .before .before .before .before .loop .t ≡ c .before .before .before .before .before .loop .t - 1 + 1 = omega arith in let q = substituting-next (c .before .before .before .before .before .before .before .args .t1) (c .before .before .before .before .before .before .before .args .n) (c .before .before .before .before .before .before .before .args .t3) (c .before .before .before .before .before .before .before .pre .0) (c .before .before .before .before .before .before .before .pre .1) (c .before .before .before .before .before .loop .t - 1) (c .before .before .before .before .before .loop .rest) (c .before .chosen .result) (omega arith) (rw e at (c .before .before .before .before .before .loop .inv .1)) (c .before .chosen .ensures) in (omega arith, q .0 (c .if1 .left))
+loop-again c =
+    let e : c .before .before .before .loop .t ≡ c .before .before .before .loop .t - 1 + 1 = omega arith in
+    (omega arith, substituting-skip (c .before .before .before .before .before .args .t1) (c .before .before .before .before .before .args .n) (c .before .before .before .before .before .args .t3) (c .before .before .before .before .before .pre .0) (c .before .before .before .before .before .pre .1) (c .before .before .before .loop .t - 1) (c .before .before .before .loop .rest) (omega arith) (rw e at (c .before .before .before .loop .inv .1)) (c .if1 .taken))
+
+mul-chosen : tie.Need-mul-chosen Inv-loop μ-loop
+mul-chosen c = let z = c .before .before .before .before .before .pre .1 .few in omega arith
+
+array-copy-out-chosen : tie.Need-array-copy-out-chosen Inv-loop μ-loop
+array-copy-out-chosen c = let z = c .before .before .before .before .before .pre .1 .few in omega arith
+
+chosen-requires : tie.Need-chosen-requires Inv-loop μ-loop
+chosen-requires c κs =
+    let e : c .before .before .before .before .loop .t ≡ c .before .before .before .before .loop .t - 1 + 1 = omega arith in
+    substituting-asks (c .before .before .before .before .before .before .args .t1) (c .before .before .before .before .before .before .args .n) (c .before .before .before .before .before .before .args .t3) (c .before .before .before .before .before .before .pre .0) (c .before .before .before .before .before .before .pre .1) (c .before .before .before .before .loop .t - 1) (c .before .before .before .before .loop .rest) (omega arith) (rw e at (c .before .before .before .before .loop .inv .1)) (c .before .if1 .left)
+
+returns : tie.Need-returns Inv-loop μ-loop
+returns c =
+    let e : c .before .before .before .before .before .before .loop .t ≡ c .before .before .before .before .before .before .loop .t - 1 + 1 = omega arith in
+    let q = substituting-next (c .before .before .before .before .before .before .before .before .args .t1) (c .before .before .before .before .before .before .before .before .args .n) (c .before .before .before .before .before .before .before .before .args .t3) (c .before .before .before .before .before .before .before .before .pre .0) (c .before .before .before .before .before .before .before .before .pre .1) (c .before .before .before .before .before .before .loop .t - 1) (c .before .before .before .before .before .before .loop .rest) (c .before .chosen .result) (omega arith) (rw e at (c .before .before .before .before .before .before .loop .inv .1)) (c .before .chosen .ensures) in
+    let z = c .if2 .taken in
+    record { many = q .1; right = λ g. absurd (omega arith) }
+
+loop-less-2 : tie.Need-loop-less-2 Inv-loop μ-loop
+loop-less-2 c = search needs
+
+loop-again-2 : tie.Need-loop-again-2 Inv-loop μ-loop
+loop-again-2 c =
+    let e : c .before .before .before .before .before .before .loop .t ≡ c .before .before .before .before .before .before .loop .t - 1 + 1 = omega arith in
+    let q = substituting-next (c .before .before .before .before .before .before .before .before .args .t1) (c .before .before .before .before .before .before .before .before .args .n) (c .before .before .before .before .before .before .before .before .args .t3) (c .before .before .before .before .before .before .before .before .pre .0) (c .before .before .before .before .before .before .before .before .pre .1) (c .before .before .before .before .before .before .loop .t - 1) (c .before .before .before .before .before .before .loop .rest) (c .before .chosen .result) (omega arith) (rw e at (c .before .before .before .before .before .before .loop .inv .1)) (c .before .chosen .ensures) in
+    (omega arith, q .0 (c .if2 .left))
 
 returns-2 : tie.Need-returns-2 Inv-loop μ-loop
 returns-2 c = let e : c .before .loop .t ≡ 0 = omega arith in let q = rw e at (c .before .loop .inv .1) in let y = q .some in record { many = λ z. absurd (omega arith); right = λ g. (q .right, q .same) }
@@ -62,12 +79,14 @@ substitute-spec =
     constant-form-requires
     loop-holds
     sub-k
-    mul-f
-    array-copy-out-f
-    element-copy-out-chosen
-    cast-chosen
-    chosen-requires
-    returns
+    element-copy-out-m
+    cast-m
     loop-less
     loop-again
+    mul-chosen
+    array-copy-out-chosen
+    chosen-requires
+    returns
+    loop-less-2
+    loop-again-2
     returns-2)

@@ -40,8 +40,8 @@ cast-c-4 c = search needs
 array-write-c-4 : tie.Need-array-write-c-4
 array-write-c-4 c = search needs
 
-cast-t7 : tie.Need-cast-t7
-cast-t7 c = search needs
+cast-t23 : tie.Need-cast-t23
+cast-t23 c = search needs
 
 returns : tie.Need-returns
 returns c = widened-four (c .before .before .args .row .coefficients) (c .before .before .args .row .constant) (c .before .before .pre .four)
@@ -62,5 +62,5 @@ widen-spec =
     array-read-c-4
     cast-c-4
     array-write-c-4
-    cast-t7
+    cast-t23
     returns)

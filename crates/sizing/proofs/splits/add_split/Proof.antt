@@ -102,6 +102,9 @@ loop-again c =
       λ i g. rw (bumped-other at v (l .r) i (λ e. omega arith)) (l .inv .4 i (omega arith)),
     )
 
+cast-r : tie.Need-cast-r Inv-loop μ-loop
+cast-r c = search needs
+
 mul-r-4 : tie.Need-mul-r-4 Inv-loop μ-loop
 mul-r-4 c =
     let s = c .before .before .before .before .before .before .before in
@@ -147,6 +150,7 @@ add-split-spec =
     add-j
     loop-less
     loop-again
+    cast-r
     mul-r-4
     add-r-4
     returns)
