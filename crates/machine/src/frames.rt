@@ -14,6 +14,20 @@ ghost use Prim.Native.Nat.{_+_, _*_, _≤_, _<_};
 ghost use lib.ListN.{length};
 ghost use Rattle.machine.specs.Indexed.{Indexed, held};
 ghost use Rattle.machine.specs.Frames.{waitingAt, FramePut, Standing, Calls, Returns, Within, Turned};
+ghost use Rattle.machine.specs.declared.state.Turn.the-variants as turns;
+
+// The run is over where the top frame stands.
+pub fn over(how: How, r: Registers, steps: usize) -> Turn
+    ensures { λ x. ⌜ x ≡ turns.Over (record { how = how; function = r .function; instruction = r .instruction; steps = steps; used = r .used }) ⌝ }
+{
+    Turn::Over(Ended {
+        how,
+        function: r.function,
+        instruction: r.instruction,
+        steps,
+        used: r.used,
+    })
+}
 
 // The frame at place k of the table.
 pub fn frame_at(frames: &[u16], k: usize) -> Waiting
@@ -61,22 +75,10 @@ pub fn enter(
     let depth = v.depth;
     let top = r.top;
     if depth + 1 >= m.frames {
-        return Turn::Over(Ended {
-            how: How::OutOfFrames,
-            function: r.function,
-            instruction: r.instruction,
-            steps: v.steps,
-            used: r.used,
-        });
+        return over(How::OutOfFrames, r, v.steps);
     }
     if top + n > m.stack {
-        return Turn::Over(Ended {
-            how: How::OutOfStack,
-            function: r.function,
-            instruction: r.instruction,
-            steps: v.steps,
-            used: r.used,
-        });
+        return over(How::OutOfStack, r, v.steps);
     }
     let w = Waiting {
         function: r.function as u16,
@@ -117,13 +119,7 @@ pub fn finish(
     let r = v.top;
     let last = r.top - 1;
     let k = wide16(stack[last]);
-    Turn::Over(Ended {
-        how: How::Result(k),
-        function: r.function,
-        instruction: r.instruction,
-        steps: v.steps,
-        used: r.used,
-    })
+    over(How::Result(k), r, v.steps)
 }
 
 // Return: below, the waiting call's arguments give way to the top value.

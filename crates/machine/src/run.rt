@@ -4,6 +4,7 @@ use crate::fetch::instruction;
 use crate::frames::enter;
 use crate::frames::finish;
 use crate::frames::leave;
+use crate::frames::over;
 use crate::state::Ended;
 use crate::state::How;
 use crate::state::Limits;
@@ -55,13 +56,7 @@ pub fn spent(
             return finish(program, cells, stack, frames, m, v, budget);
         }
     }
-    Turn::Over(Ended {
-        how: How::OutOfSteps,
-        function: r.function,
-        instruction: r.instruction,
-        steps: v.steps,
-        used: r.used,
-    })
+    over(How::OutOfSteps, r, v.steps)
 }
 
 // A turn of the run: the top frame runs until it pauses; a call or a return then changes frames.
@@ -96,34 +91,16 @@ pub fn advance(
             return leave(program, index, cells, stack, frames, m, next, budget);
         }
         Why::Stopped => {
-            return Turn::Over(Ended {
-                how: How::Aborted,
-                function: top.function,
-                instruction: top.instruction,
-                steps: p.steps + 1,
-                used: top.used,
-            });
+            return over(How::Aborted, top, p.steps + 1);
         }
         Why::Spent => {
             return spent(program, index, cells, stack, frames, m, next, budget);
         }
         Why::NoStack => {
-            return Turn::Over(Ended {
-                how: How::OutOfStack,
-                function: top.function,
-                instruction: top.instruction,
-                steps: p.steps,
-                used: top.used,
-            });
+            return over(How::OutOfStack, top, p.steps);
         }
         Why::NoCells => {
-            return Turn::Over(Ended {
-                how: How::OutOfCells,
-                function: top.function,
-                instruction: top.instruction,
-                steps: p.steps,
-                used: top.used,
-            });
+            return over(How::OutOfCells, top, p.steps);
         }
     }
 }

@@ -13,26 +13,32 @@ function-arity-requires c κs = (c .before .before .before .before .pre .1 .1, c
 add-if1 : tie.Need-add-if1
 add-if1 c = search needs
 
+over-requires : tie.Need-over-requires
+over-requires c κs = search needs
+
 returns : tie.Need-returns
-returns c = record { answer-is = call-frames _ _ _ _ _ _ (c .before .before .before .before .before .before .before .before .args .g) (c .before .before .before .before .before .before .before .before .args .budget) (c .before .before .before .before .before .before .before .before .pre .0) (c .before .before .before .before .before .before .before .before .pre .1 .0) (omega (arith, c .if1 .taken)); writable = tt; spared = spared-refl _ _ _ _ }
+returns c = rw (c .over .ensures) (record { answer-is = call-frames _ _ _ _ _ _ (c .before .before .before .before .before .before .before .before .before .args .g) (c .before .before .before .before .before .before .before .before .before .args .budget) (c .before .before .before .before .before .before .before .before .before .pre .0) (c .before .before .before .before .before .before .before .before .before .pre .1 .0) (omega (arith, c .before .if1 .taken)); writable = tt; spared = spared-refl _ _ _ _ })
 
 add-if2 : tie.Need-add-if2
 add-if2 c = search needs
 
+over-requires-2 : tie.Need-over-requires-2
+over-requires-2 c κs = search needs
+
 returns-2 : tie.Need-returns-2
-returns-2 c = record { answer-is = call-stack _ _ _ _ _ _ (c .before .before .before .before .before .before .before .before .before .before .args .g) (c .before .before .before .before .before .before .before .before .before .before .args .budget) (c .before .before .before .before .before .before .before .before .before .before .pre .0) (c .before .before .before .before .before .before .before .before .before .before .pre .1 .0) (omega (arith, c .before .before .if1 .left)) (omega (arith, c .if2 .taken, c .before .before .before .before .before .function-arity .ensures .0)); writable = tt; spared = spared-refl _ _ _ _ }
+returns-2 c = rw (c .over2 .ensures) (record { answer-is = call-stack _ _ _ _ _ _ (c .before .before .before .before .before .before .before .before .before .before .before .args .g) (c .before .before .before .before .before .before .before .before .before .before .before .args .budget) (c .before .before .before .before .before .before .before .before .before .before .before .pre .0) (c .before .before .before .before .before .before .before .before .before .before .before .pre .1 .0) (omega (arith, c .before .before .before .if1 .left)) (omega (arith, c .before .if2 .taken, c .before .before .before .before .before .before .function-arity .ensures .0)); writable = tt; spared = spared-refl _ _ _ _ })
 
-cast-t22 : tie.Need-cast-t22
-cast-t22 c = omega (arith, call-small _ _ _ _ _ _ (c .before .before .before .before .before .before .before .before .before .before .before .args .g) (c .before .before .before .before .before .before .before .before .before .before .before .args .budget) (c .before .before .before .before .before .before .before .before .before .before .before .pre .0) (c .before .before .before .before .before .before .before .before .before .before .before .pre .1 .0))
+cast-t20 : tie.Need-cast-t20
+cast-t20 c = omega (arith, call-small _ _ _ _ _ _ (c .before .before .before .before .before .before .before .before .before .before .before .args .g) (c .before .before .before .before .before .before .before .before .before .before .before .args .budget) (c .before .before .before .before .before .before .before .before .before .before .before .pre .0) (c .before .before .before .before .before .before .before .before .before .before .before .pre .1 .0))
 
-cast-t23 : tie.Need-cast-t23
-cast-t23 c = omega (arith, call-small _ _ _ _ _ _ (c .before .before .before .before .before .before .before .before .before .before .before .before .args .g) (c .before .before .before .before .before .before .before .before .before .before .before .before .args .budget) (c .before .before .before .before .before .before .before .before .before .before .before .before .pre .0) (c .before .before .before .before .before .before .before .before .before .before .before .before .pre .1 .0))
+cast-t21 : tie.Need-cast-t21
+cast-t21 c = omega (arith, call-small _ _ _ _ _ _ (c .before .before .before .before .before .before .before .before .before .before .before .before .args .g) (c .before .before .before .before .before .before .before .before .before .before .before .before .args .budget) (c .before .before .before .before .before .before .before .before .before .before .before .before .pre .0) (c .before .before .before .before .before .before .before .before .before .before .before .before .pre .1 .0))
 
 sub-t16 : tie.Need-sub-t16
 sub-t16 c = search needs
 
-cast-t24 : tie.Need-cast-t24
-cast-t24 c = search needs
+cast-t22 : tie.Need-cast-t22
+cast-t22 c = search needs
 
 put-frame-requires : tie.Need-put-frame-requires
 put-frame-requires c κs = search needs
@@ -49,8 +55,8 @@ add-t16 c = search needs
 add-t16-2 : tie.Need-add-t16-2
 add-t16-2 c = search needs
 
-add-t30 : tie.Need-add-t30
-add-t30 c = omega (arith, c .before .before .before .before .before .before .before .before .before .before .before .before .before .before .before .before .before .before .before .before .before .before .pre .1 .0 .left, c .before .before .before .before .before .before .before .before .before .before .before .before .before .before .before .before .before .before .before .before .before .before .pre .1 .0 .small)
+add-t28 : tie.Need-add-t28
+add-t28 c = omega (arith, c .before .before .before .before .before .before .before .before .before .before .before .before .before .before .before .before .before .before .before .before .before .before .pre .1 .0 .left, c .before .before .before .before .before .before .before .before .before .before .before .before .before .before .before .before .before .before .before .before .before .before .pre .1 .0 .small)
 
 same-length : tie.Need-same-length
 same-length c = search needs
@@ -67,19 +73,21 @@ enter-spec =
     (tie.spec
     function-arity-requires
     add-if1
+    over-requires
     returns
     add-if2
+    over-requires-2
     returns-2
-    cast-t22
-    cast-t23
+    cast-t20
+    cast-t21
     sub-t16
-    cast-t24
+    cast-t22
     put-frame-requires
     sub-repeat
     repeat-requires
     add-t16
     add-t16-2
-    add-t30
+    add-t28
     same-length
     same-length-2
     returns-3)

@@ -19,15 +19,18 @@ shared-slice-read-wide16 c = omega (arith, finish-deep _ _ _ _ _ _ (c .before .b
 wide16-requires : tie.Need-wide16-requires
 wide16-requires c κs = search needs
 
+over-requires : tie.Need-over-requires
+over-requires c κs = search needs
+
 returns : tie.Need-returns
 returns c =
-    let p = c .before .before .before .before .before .before .before .before in
-    record {
-      answer-is = finish-is _ _ _ _ _ _ (p .args .budget) (p .pre .0) (p .pre .1 .0 .is) (p .pre .1 .1) _ (c .wide16 .ensures .0);
-      writable = finish-at _ _ _ _ _ _ (p .args .budget) (p .pre .0) (p .pre .1 .0 .is) (p .pre .1 .1) _ (c .wide16 .ensures .0);
+    let p = c .before .before .before .before .before .before .before .before .before in
+    rw (c .over .ensures) (record {
+      answer-is = finish-is _ _ _ _ _ _ (p .args .budget) (p .pre .0) (p .pre .1 .0 .is) (p .pre .1 .1) _ (c .before .wide16 .ensures .0);
+      writable = finish-at _ _ _ _ _ _ (p .args .budget) (p .pre .0) (p .pre .1 .0 .is) (p .pre .1 .1) _ (c .before .wide16 .ensures .0);
       spared = spared-refl _ _ _ _;
-    }
+    })
 
 pub finish-spec : {M : Type 1} → statement M
 finish-spec =
-    tie.close (tie.spec sub-last mul-wide16 shared-slice-read-wide16 wide16-requires returns)
+    tie.close (tie.spec sub-last mul-wide16 shared-slice-read-wide16 wide16-requires over-requires returns)

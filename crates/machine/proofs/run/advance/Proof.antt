@@ -49,8 +49,11 @@ returns-2 c = turned-after _ _ _ _ _ _ _ _ _ _ _ _ _ _ (c .before .before .leave
 enum-told-2 : tie.Need-enum-told-2
 enum-told-2 c = search needs
 
-add-t31 : tie.Need-add-t31
-add-t31 c = omega (arith, on-stop-left _ _ _ _ _ _ _ (c .before .before .before .before .before .before .before .before .before .before .before .before .before .before .before .pre .0) (c .before .before .before .before .before .before .before .before .before .before .before .before .before .before .before .pre .1 .0) _ _ (c .before .before .before .before .before .before .before .before .straight .result) (c .before .before .before .before .before .before .before .before .straight .ensures) (c .before .enum-told2 .given .1), c .before .before .before .before .before .before .before .before .before .before .before .before .before .before .before .pre .1 .0 .small)
+add-over : tie.Need-add-over
+add-over c = omega (arith, on-stop-left _ _ _ _ _ _ _ (c .before .before .before .before .before .before .before .before .before .before .before .before .before .before .before .pre .0) (c .before .before .before .before .before .before .before .before .before .before .before .before .before .before .before .pre .1 .0) _ _ (c .before .before .before .before .before .before .before .before .straight .result) (c .before .before .before .before .before .before .before .before .straight .ensures) (c .before .enum-told2 .given .1), c .before .before .before .before .before .before .before .before .before .before .before .before .before .before .before .pre .1 .0 .small)
+
+over-requires : tie.Need-over-requires
+over-requires c κs = search needs
 
 same-length-7 : tie.Need-same-length-7
 same-length-7 c = search needs
@@ -59,7 +62,7 @@ same-length-8 : tie.Need-same-length-8
 same-length-8 c = search needs
 
 returns-3 : tie.Need-returns-3
-returns-3 c = on-stop _ _ _ _ _ _ _ (c .before .before .before .before .before .before .before .before .before .before .before .before .before .before .before .pre .0) (c .before .before .before .before .before .before .before .before .before .before .before .before .before .before .before .pre .1 .0) _ _ (c .before .before .before .before .before .before .before .before .straight .result) (c .before .before .before .before .before .before .before .before .straight .ensures) (c .before .enum-told2 .given .1)
+returns-3 c = rw (c .over .ensures) (on-stop _ _ _ _ _ _ _ (c .before .before .before .before .before .before .before .before .before .before .before .before .before .before .before .before .pre .0) (c .before .before .before .before .before .before .before .before .before .before .before .before .before .before .before .before .pre .1 .0) _ _ (c .before .before .before .before .before .before .before .before .before .straight .result) (c .before .before .before .before .before .before .before .before .before .straight .ensures) (c .before .before .enum-told2 .given .1))
 
 enum-told-3 : tie.Need-enum-told-3
 enum-told-3 c = search needs
@@ -82,6 +85,9 @@ returns-4 c = turned-after _ _ _ _ _ _ _ _ _ _ _ _ _ _ (c .spent .result) (to _ 
 enum-told-4 : tie.Need-enum-told-4
 enum-told-4 c = search needs
 
+over-requires-2 : tie.Need-over-requires-2
+over-requires-2 c κs = search needs
+
 same-length-12 : tie.Need-same-length-12
 same-length-12 c = search needs
 
@@ -89,10 +95,13 @@ same-length-13 : tie.Need-same-length-13
 same-length-13 c = search needs
 
 returns-5 : tie.Need-returns-5
-returns-5 c = on-stack _ _ _ _ _ _ _ (c .before .before .before .before .before .before .before .before .before .before .before .before .before .before .pre .0) (c .before .before .before .before .before .before .before .before .before .before .before .before .before .before .pre .1 .0) _ _ (c .before .before .before .before .before .before .before .straight .result) (c .before .before .before .before .before .before .before .straight .ensures) (c .enum-told4 .given .1)
+returns-5 c = rw (c .over2 .ensures) (on-stack _ _ _ _ _ _ _ (c .before .before .before .before .before .before .before .before .before .before .before .before .before .before .before .pre .0) (c .before .before .before .before .before .before .before .before .before .before .before .before .before .before .before .pre .1 .0) _ _ (c .before .before .before .before .before .before .before .before .straight .result) (c .before .before .before .before .before .before .before .before .straight .ensures) (c .before .enum-told4 .given .1))
 
 enum-told-5 : tie.Need-enum-told-5
 enum-told-5 c = search needs
+
+over-requires-3 : tie.Need-over-requires-3
+over-requires-3 c κs = search needs
 
 same-length-14 : tie.Need-same-length-14
 same-length-14 c = search needs
@@ -101,7 +110,7 @@ same-length-15 : tie.Need-same-length-15
 same-length-15 c = search needs
 
 returns-6 : tie.Need-returns-6
-returns-6 c = on-cells _ _ _ _ _ _ _ (c .before .before .before .before .before .before .before .before .before .before .before .before .before .before .pre .0) (c .before .before .before .before .before .before .before .before .before .before .before .before .before .before .pre .1 .0) _ _ (c .before .before .before .before .before .before .before .straight .result) (c .before .before .before .before .before .before .before .straight .ensures) (c .enum-told5 .given .1)
+returns-6 c = rw (c .over3 .ensures) (on-cells _ _ _ _ _ _ _ (c .before .before .before .before .before .before .before .before .before .before .before .before .before .before .before .pre .0) (c .before .before .before .before .before .before .before .before .before .before .before .before .before .before .before .pre .1 .0) _ _ (c .before .before .before .before .before .before .before .before .straight .result) (c .before .before .before .before .before .before .before .before .straight .ensures) (c .before .enum-told5 .given .1))
 
 pub advance-spec : {M : Type 1} → statement M
 advance-spec =
@@ -121,7 +130,8 @@ advance-spec =
     same-length-6
     returns-2
     enum-told-2
-    add-t31
+    add-over
+    over-requires
     same-length-7
     same-length-8
     returns-3
@@ -132,10 +142,12 @@ advance-spec =
     same-length-11
     returns-4
     enum-told-4
+    over-requires-2
     same-length-12
     same-length-13
     returns-5
     enum-told-5
+    over-requires-3
     same-length-14
     same-length-15
     returns-6)

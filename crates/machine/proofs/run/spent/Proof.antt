@@ -2,6 +2,7 @@
 use Prim.Native.Nat.{_-_}
 use mathlib.Core.Path.{sym, ap, _∙_}
 use mathlib.Core.Option.{some}
+use mathlib.Core.Logic.{⊎-elim}
 use Rattle.machine.proofs.ReturnLaws.{spent-is, other-goes, waits-on, return-is}
 use Rattle.machine.proofs.LoopLaws.{alive-current}
 use Rattle.machine.proofs.TurnLaws.{alive-now}
@@ -22,13 +23,22 @@ finish-requires c κs = (c .before .before .before .before .before .before .befo
 returns : tie.Need-returns
 returns c = search needs
 
-returns-2 : tie.Need-returns-2
-returns-2 c = record { answer-is = spent-is _ _ _ _ _ _ (c .before .before .before .before .before .before .before .before .before .before .args .budget) (c .before .before .before .before .before .before .before .before .before .before .pre .0) (c .before .before .before .before .before .before .before .before .before .before .pre .1 .0) (other-goes _ _ _ _ _ _ (c .before .before .before .before .before .before .before .before .before .before .args .budget) (c .before .before .before .before .before .before .before .before .before .before .pre .0) _ (c .before .before .before .before .instruction .ensures .0) (sym (c .before .returns .ensures) ∙ c .if2 .left)); writable = tt; spared = spared-refl _ _ _ _ }
+over-requires : tie.Need-over-requires
+over-requires c κs = search needs
 
-returns-3 : tie.Need-returns-3
-returns-3 c = record { answer-is = spent-is _ _ _ _ _ _ (c .before .before .before .before .before .before .before .before .args .budget) (c .before .before .before .before .before .before .before .before .pre .0) (c .before .before .before .before .before .before .before .before .pre .1 .0) (waits-on _ _ _ _ _ _ (c .before .before .before .before .before .before .before .before .args .budget) (c .before .before .before .before .before .before .before .before .pre .0) (c .if1 .left)); writable = tt; spared = spared-refl _ _ _ _ }
+returns-2 : tie.Need-returns-2
+returns-2 c =
+    let p = c .before .before .before .before .before .before .before .before .before in
+    rw (c .over .ensures) (record {
+      answer-is = spent-is _ _ _ _ _ _ (p .args .budget) (p .pre .0) (p .pre .1 .0) (⊎-elim
+          (λ w. other-goes _ _ _ _ _ _ (p .args .budget) (p .pre .0) _ (c .before .before .before .instruction .ensures .0) (sym (w .1 .ensures) ∙ w .2 .left))
+          (λ w. waits-on _ _ _ _ _ _ (p .args .budget) (p .pre .0) (w .left))
+          (c .before .if1 .came));
+      writable = tt;
+      spared = spared-refl _ _ _ _;
+    })
 
 pub spent-spec : {M : Type 1} → statement M
 spent-spec =
     tie.close
-    (tie.spec instruction-requires returns-requires finish-requires returns returns-2 returns-3)
+    (tie.spec instruction-requires returns-requires finish-requires returns over-requires returns-2)
