@@ -86,6 +86,16 @@ pub enum Straight {
     Refused(Reason),
 }
 
+// An instruction of a function.
+fn place(function: usize, instruction: usize) -> Place
+    ensures { λ r. ⌜ r ≡ record { function = function; instruction = instruction } ⌝ }
+{
+    Place {
+        function,
+        instruction,
+    }
+}
+
 // The straight line of function g from instruction start on, a build or call. Only what is new on the stack has to be tested,
 // where it arrives: at the next instruction.
 pub fn straight_line(
@@ -102,13 +112,11 @@ pub fn straight_line(
 {
     let bound = f.bound;
     let list = st.list;
-    let own = own_form(
-        bound,
-        Splits {
-            taken: st.taken,
-            list: list,
-        },
-    );
+    let s = Splits {
+        taken: st.taken,
+        list: list,
+    };
+    let own = own_form(bound, s);
     let mut stack = stack_forms(st);
     let mut height = st.height;
     let mut j = start;
@@ -126,27 +134,18 @@ pub fn straight_line(
             j = next;
             continue;
         }
-        let from = height - m.arity;
+        let at = height - m.arity;
         let made = m.bound;
-        let first = stack[from];
-        let second = stack[from + 1];
-        let third = stack[from + 2];
-        let fourth = stack[from + 3];
-        let x = into_bound(made, m.arity, [first, second, third, fourth]);
+        let arguments = [stack[at], stack[at + 1], stack[at + 2], stack[at + 3]];
+        let x = into_bound(made, m.arity, arguments);
         if x.count == 0 {
-            return Straight::Refused(Reason::TooManyForms(Place {
-                function: g,
-                instruction: j,
-            }));
+            return Straight::Refused(Reason::TooManyForms(place(g, j)));
         }
         if !covered_by(own, x) {
-            return Straight::Refused(Reason::NotCovered(Place {
-                function: g,
-                instruction: next,
-            }));
+            return Straight::Refused(Reason::NotCovered(place(g, next)));
         }
-        stack[from] = x;
-        height = from + 1;
+        stack[at] = x;
+        height = at + 1;
         j = next;
     }
 }

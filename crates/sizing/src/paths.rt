@@ -107,6 +107,17 @@ pub fn add_taken(st: Saved, p: Split) -> Saved
     r
 }
 
+// A branch that goes on with these two states.
+fn sides(next: Saved, other: Saved) -> Branched
+    ensures { λ r. ⌜ r ≡ record { large = false; next = next; other = other } ⌝ }
+{
+    Branched {
+        large: false,
+        next,
+        other,
+    }
+}
+
 // A branch on constructor c: both sides where the top is whole, and where its constructor is known the side that can be taken.
 pub fn branch_variable(st: Saved, c: u8, parts: u8, weight: u8) -> Branched
     requires { ⌜ BranchAsks st c parts ⌝ }
@@ -119,18 +130,9 @@ pub fn branch_variable(st: Saved, c: u8, parts: u8, weight: u8) -> Branched
     if at < st.taken {
         let p = st.list[at];
         if p.constructor == c {
-            let next = push_parts(st, p.first, parts);
-            return Branched {
-                large: false,
-                next: next,
-                other: none,
-            };
+            return sides(push_parts(st, p.first, parts), none);
         }
-        return Branched {
-            large: false,
-            next: none,
-            other: st,
-        };
+        return sides(none, st);
     }
     let n = parts as usize;
     if st.count + n > 16 {
@@ -149,10 +151,5 @@ pub fn branch_variable(st: Saved, c: u8, parts: u8, weight: u8) -> Branched
         weight: weight,
     };
     let more = add_taken(st, p);
-    let next = push_parts(more, first, parts);
-    Branched {
-        large: false,
-        next: next,
-        other: st,
-    }
+    sides(push_parts(more, first, parts), st)
 }

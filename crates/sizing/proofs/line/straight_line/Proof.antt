@@ -136,53 +136,59 @@ loop-less c = omega (arith, place (c .before .before .before .before .before .be
 loop-again : tie.Need-loop-again Inv-loop μ-loop
 loop-again c = λ from r. rw (c .before .wide .ensures .0) (line-load (c .before .before .before .before .before .before .before .before .before .before .before .before .before .before .before .before .pre) (c .before .before .before .before .before .before .before .before .before .before .loop .inv from r) (c .before .before .before .ins .given .0 .0) (loads (c .before .before .before)))
 
-sub-from : tie.Need-sub-from Inv-loop μ-loop
-sub-from c = making c .high
+sub-at : tie.Need-sub-at Inv-loop μ-loop
+sub-at c = making c .high
 
-mul-first : tie.Need-mul-first Inv-loop μ-loop
-mul-first c = omega (arith, low (c .before))
+mul-t25 : tie.Need-mul-t25 Inv-loop μ-loop
+mul-t25 c = omega (arith, low (c .before))
 
-array-copy-out-first : tie.Need-array-copy-out-first Inv-loop μ-loop
-array-copy-out-first c = omega (arith, low (c .before))
+array-copy-out-t39 : tie.Need-array-copy-out-t39 Inv-loop μ-loop
+array-copy-out-t39 c = omega (arith, low (c .before))
 
-add-second : tie.Need-add-second Inv-loop μ-loop
-add-second c = omega (arith, low (c .before .before))
+add-t26 : tie.Need-add-t26 Inv-loop μ-loop
+add-t26 c = omega (arith, low (c .before .before))
 
-mul-second : tie.Need-mul-second Inv-loop μ-loop
-mul-second c = omega (arith, low (c .before .before))
+mul-t27 : tie.Need-mul-t27 Inv-loop μ-loop
+mul-t27 c = omega (arith, low (c .before .before))
 
-array-copy-out-second : tie.Need-array-copy-out-second Inv-loop μ-loop
-array-copy-out-second c = omega (arith, low (c .before .before))
+array-copy-out-t42 : tie.Need-array-copy-out-t42 Inv-loop μ-loop
+array-copy-out-t42 c = omega (arith, low (c .before .before))
 
-add-third : tie.Need-add-third Inv-loop μ-loop
-add-third c = omega (arith, low (c .before .before .before))
+add-t43 : tie.Need-add-t43 Inv-loop μ-loop
+add-t43 c = omega (arith, low (c .before .before .before))
 
-mul-third : tie.Need-mul-third Inv-loop μ-loop
-mul-third c = omega (arith, low (c .before .before .before))
+mul-t44 : tie.Need-mul-t44 Inv-loop μ-loop
+mul-t44 c = omega (arith, low (c .before .before .before))
 
-array-copy-out-third : tie.Need-array-copy-out-third Inv-loop μ-loop
-array-copy-out-third c = omega (arith, low (c .before .before .before))
+array-copy-out-t47 : tie.Need-array-copy-out-t47 Inv-loop μ-loop
+array-copy-out-t47 c = omega (arith, low (c .before .before .before))
 
-add-fourth : tie.Need-add-fourth Inv-loop μ-loop
-add-fourth c = omega (arith, low (c .before .before .before .before))
+add-t48 : tie.Need-add-t48 Inv-loop μ-loop
+add-t48 c = omega (arith, low (c .before .before .before .before))
 
-mul-fourth : tie.Need-mul-fourth Inv-loop μ-loop
-mul-fourth c = omega (arith, low (c .before .before .before .before))
+mul-t49 : tie.Need-mul-t49 Inv-loop μ-loop
+mul-t49 c = omega (arith, low (c .before .before .before .before))
 
-array-copy-out-fourth : tie.Need-array-copy-out-fourth Inv-loop μ-loop
-array-copy-out-fourth c = omega (arith, low (c .before .before .before .before))
+array-copy-out-t52 : tie.Need-array-copy-out-t52 Inv-loop μ-loop
+array-copy-out-t52 c = omega (arith, low (c .before .before .before .before))
 
 into-bound-requires : tie.Need-into-bound-requires Inv-loop μ-loop
 into-bound-requires c κs = (making (c .before .before .before .before .before) .bound, line-arguments (c .before .before .before .before .before .before .before .before .before .before .before .before .before .before .before .before .before .pre) (goes (c .before .before .before .before .before .before .before .before .before .before .before)) (c .before .before .before .before .before .before .before .before .before .instruction .result) (is (c .before .before .before .before .before .before .before .before .before)) (c .before .before .before .before .before .before .before .before .maker-of .result) (making (c .before .before .before .before .before)))
 
+place-requires : tie.Need-place-requires Inv-loop μ-loop
+place-requires c κs = search needs
+
 returns-2 : tie.Need-returns-2 Inv-loop μ-loop
-returns-2 c = record { left = line-large (c .before .before .before .before .before .before .before .before .before .before .before .before .before .before .before .before .before .before .before .before .pre) (goes (c .before .before .before .before .before .before .before .before .before .before .before .before .before .before)) (c .before .before .before .before .before .before .before .before .before .before .before .before .instruction .result) (is (c .before .before .before .before .before .before .before .before .before .before .before .before)) (c .before .before .before .before .before .before .before .before .before .before .before .maker-of .result) (making (c .before .before .before .before .before .before .before .before)) (c .before .before .into-bound .result) (c .before .before .into-bound .ensures) (c .if2 .taken); further = tt }
+returns-2 c = rw (c .place .ensures) (record { left = line-large (c .before .before .before .before .before .before .before .before .before .before .before .before .before .before .before .before .before .before .before .before .before .pre) (goes (c .before .before .before .before .before .before .before .before .before .before .before .before .before .before .before)) (c .before .before .before .before .before .before .before .before .before .before .before .before .before .instruction .result) (is (c .before .before .before .before .before .before .before .before .before .before .before .before .before)) (c .before .before .before .before .before .before .before .before .before .before .before .before .maker-of .result) (making (c .before .before .before .before .before .before .before .before .before)) (c .before .before .before .into-bound .result) (c .before .before .before .into-bound .ensures) (c .before .if2 .taken); further = tt })
 
 covered-by-requires : tie.Need-covered-by-requires Inv-loop μ-loop
 covered-by-requires c κs = let z : 0 < c .before .before .into-bound .result .count = omega (arith, c .if2 .left) in (goes (c .before .before .before .before .before .before .before .before .before .before .before .before .before .before) .line .bound, c .before .before .into-bound .ensures .right z .0)
 
+place-requires-2 : tie.Need-place-requires-2 Inv-loop μ-loop
+place-requires-2 c κs = search needs
+
 returns-3 : tie.Need-returns-3 Inv-loop μ-loop
-returns-3 c = record { left = line-uncovered (c .before .before .before .before .before .before .before .before .before .before .before .before .before .before .before .before .before .before .before .before .before .before .pre) (goes (c .before .before .before .before .before .before .before .before .before .before .before .before .before .before .before .before)) (c .before .before .before .before .before .before .before .before .before .before .before .before .before .before .instruction .result) (is (c .before .before .before .before .before .before .before .before .before .before .before .before .before .before)) (c .before .before .before .before .before .before .before .before .before .before .before .before .before .maker-of .result) (making (c .before .before .before .before .before .before .before .before .before .before)) (c .before .before .before .before .into-bound .result) (c .before .before .before .before .into-bound .ensures) (c .before .before .if2 .left) (sym (c .before .covered-by .ensures) ∙ not-true _ (c .if3 .taken)); further = tt }
+returns-3 c = rw (c .place2 .ensures) (record { left = line-uncovered (c .before .before .before .before .before .before .before .before .before .before .before .before .before .before .before .before .before .before .before .before .before .before .before .pre) (goes (c .before .before .before .before .before .before .before .before .before .before .before .before .before .before .before .before .before)) (c .before .before .before .before .before .before .before .before .before .before .before .before .before .before .before .instruction .result) (is (c .before .before .before .before .before .before .before .before .before .before .before .before .before .before .before)) (c .before .before .before .before .before .before .before .before .before .before .before .before .before .before .maker-of .result) (making (c .before .before .before .before .before .before .before .before .before .before .before)) (c .before .before .before .before .before .into-bound .result) (c .before .before .before .before .before .into-bound .ensures) (c .before .before .before .if2 .left) (sym (c .before .before .covered-by .ensures) ∙ not-true _ (c .before .if3 .taken)); further = tt })
 
 mul-stack-2 : tie.Need-mul-stack-2 Inv-loop μ-loop
 mul-stack-2 c = omega (arith, low (c .before .before .before .before .before .before .before .before .before .before))
@@ -225,21 +231,23 @@ straight-line-spec =
     add-height
     loop-less
     loop-again
-    sub-from
-    mul-first
-    array-copy-out-first
-    add-second
-    mul-second
-    array-copy-out-second
-    add-third
-    mul-third
-    array-copy-out-third
-    add-fourth
-    mul-fourth
-    array-copy-out-fourth
+    sub-at
+    mul-t25
+    array-copy-out-t39
+    add-t26
+    mul-t27
+    array-copy-out-t42
+    add-t43
+    mul-t44
+    array-copy-out-t47
+    add-t48
+    mul-t49
+    array-copy-out-t52
     into-bound-requires
+    place-requires
     returns-2
     covered-by-requires
+    place-requires-2
     returns-3
     mul-stack-2
     array-set-from-stack-2

@@ -34,42 +34,50 @@ push-parts-requires c κs =
     let q = s .pre .each (c .before .before .before .before .find-split .result) (c .before .before .before .if1 .taken) (c .if2 .taken) in
     (s .pre .some, s .pre .fits, q .1, s .pre .long)
 
+sides-requires : tie.Need-sides-requires
+sides-requires c κs = search needs
+
 returns : tie.Need-returns
 returns c =
-    let st = c .before .before .before .before .before .before .before .before .args .t1 in
-    let pre = c .before .before .before .before .before .before .before .before .pre in
-    let at = c .before .before .before .before .before .find-split .result in
-    let fd = c .before .before .before .before .before .find-split .ensures in
-    let nv = c .before .before .before .before .before .before .before .unvisited .ensures in
-    let e = c .push-parts .ensures in
-    let q = pre .each at (c .before .before .before .before .if1 .taken) (c .before .if2 .taken) in
+    rw (c .sides .ensures) (
+    let st = c .before .before .before .before .before .before .before .before .before .args .t1 in
+    let pre = c .before .before .before .before .before .before .before .before .before .pre in
+    let at = c .before .before .before .before .before .before .find-split .result in
+    let fd = c .before .before .before .before .before .before .find-split .ensures in
+    let nv = c .before .before .before .before .before .before .before .before .unvisited .ensures in
+    let e = c .before .push-parts .ensures in
+    let q = pre .each at (c .before .before .before .before .before .if1 .taken) (c .before .before .if2 .taken) in
     λ s n f i b k r v known pn pw.
     let fits = pre .fits in
     let some = pre .some in
     let hi = e .1 in
-    let x = branch-taken s n f st r some i b (c .before .before .before .before .before .before .before .before .args .c) k known at fd (c .push-parts .result) (c .before .before .before .before .if1 .taken) (c .before .if2 .taken) (e .0) (omega arith) (rw (q .0) (e .2)) in
+    let x = branch-taken s n f st r some i b (c .before .before .before .before .before .before .before .before .before .args .c) k known at fd (c .before .push-parts .result) (c .before .before .before .before .before .if1 .taken) (c .before .before .if2 .taken) (e .0) (omega arith) (rw (q .0) (e .2)) in
     let xv = e .0 .visited ∙ v in
     record {
       large = λ z. absurd (false-true z);
       goes = λ z. rw (xv, nv) (x .0);
       next = λ z. (x .1, e .1);
       other = λ z. absurd (false-true (sym nv ∙ z));
-    }
+    })
+
+sides-requires-2 : tie.Need-sides-requires-2
+sides-requires-2 c κs = search needs
 
 returns-2 : tie.Need-returns-2
 returns-2 c =
-    let st = c .before .before .before .before .before .before .before .args .t1 in
-    let pre = c .before .before .before .before .before .before .before .pre in
-    let at = c .before .before .before .before .find-split .result in
-    let fd = c .before .before .before .before .find-split .ensures in
-    let nv = c .before .before .before .before .before .before .unvisited .ensures in
+    rw (c .sides2 .ensures) (
+    let st = c .before .before .before .before .before .before .before .before .args .t1 in
+    let pre = c .before .before .before .before .before .before .before .before .pre in
+    let at = c .before .before .before .before .before .find-split .result in
+    let fd = c .before .before .before .before .before .find-split .ensures in
+    let nv = c .before .before .before .before .before .before .before .unvisited .ensures in
     λ s n f i b k r v known pn pw.
     record {
       large = λ z. absurd (false-true z);
-      goes = λ z. rw (nv, v) (branch-other s n f st r (pre .some) i b (c .before .before .before .before .before .before .before .args .c) k known at fd (c .before .before .before .if1 .taken) (c .if2 .left));
+      goes = λ z. rw (nv, v) (branch-other s n f st r (pre .some) i b (c .before .before .before .before .before .before .before .before .args .c) k known at fd (c .before .before .before .before .if1 .taken) (c .before .if2 .left));
       next = λ z. absurd (false-true (sym nv ∙ z));
       other = λ z. (r, refl);
-    }
+    })
 
 add-if3 : tie.Need-add-if3
 add-if3 c = search needs
@@ -108,36 +116,40 @@ add-taken-requires c κs =
 push-parts-requires-2 : tie.Need-push-parts-requires-2
 push-parts-requires-2 c κs = search needs
 
+sides-requires-3 : tie.Need-sides-requires-3
+sides-requires-3 c κs = search needs
+
 returns-4 : tie.Need-returns-4
 returns-4 c =
-    let st = c .before .before .before .before .before .before .before .args .t1 in
-    let pre = c .before .before .before .before .before .before .before .pre in
-    let at = c .before .before .before .before .find-split .result in
-    let fd = c .before .before .before .before .find-split .ensures in
-    let e = c .push-parts2 .ensures in
-    let a = c .before .add-taken .ensures in
+    rw (c .sides3 .ensures) (
+    let st = c .before .before .before .before .before .before .before .before .args .t1 in
+    let pre = c .before .before .before .before .before .before .before .before .pre in
+    let at = c .before .before .before .before .before .find-split .result in
+    let fd = c .before .before .before .before .before .find-split .ensures in
+    let e = c .before .push-parts2 .ensures in
+    let a = c .before .before .add-taken .ensures in
     let m = fd .most in
-    let left = c .before .before .before .if1 .left in
+    let left = c .before .before .before .before .if1 .left in
     let l = pre .list in
     let w = pre .few in
     let hi = e .1 in
     let ah = a .height in
-    let o = c .before .before .if3 .left in
+    let o = c .before .before .before .if3 .left in
     λ s n f i b k r v known pn pw.
     let fits = pre .fits in
     let some = pre .some in
     let same : at ≡ st .taken = omega arith in
     let room = pre .room (found-whole (topOf st) (st .taken) (st .list) at fd same (omega arith)) in
-    let x = branch-split s n f st r some i b (c .before .before .before .before .before .before .before .args .c) k known at fd
-    (record { variable = topOf st; constructor = c .before .before .before .before .before .before .before .args .c; first = st .count; parts = c .before .before .before .before .before .before .before .args .parts; weight = c .before .before .before .before .before .before .before .args .weight })
-    (c .before .add-taken .result) (c .push-parts2 .result) same refl refl refl pn pw o room a (e .0) (omega arith) (rw (a .height, a .stack) at (e .2)) in
+    let x = branch-split s n f st r some i b (c .before .before .before .before .before .before .before .before .args .c) k known at fd
+    (record { variable = topOf st; constructor = c .before .before .before .before .before .before .before .before .args .c; first = st .count; parts = c .before .before .before .before .before .before .before .before .args .parts; weight = c .before .before .before .before .before .before .before .before .args .weight })
+    (c .before .before .add-taken .result) (c .before .push-parts2 .result) same refl refl refl pn pw o room a (e .0) (omega arith) (rw (a .height, a .stack) at (e .2)) in
     let xv = e .0 .visited ∙ a .visited ∙ v in
     record {
       large = λ z. absurd (false-true z);
       goes = λ z. rw (xv, v) (x .0);
-      next = λ z. (x .1, e .1 ∙ ap (λ (h : ℕ). h - 1 + c .before .before .before .before .before .before .before .args .parts) (a .height));
+      next = λ z. (x .1, e .1 ∙ ap (λ (h : ℕ). h - 1 + c .before .before .before .before .before .before .before .before .args .parts) (a .height));
       other = λ z. (r, refl);
-    }
+    })
 
 pub branch-variable-spec : {M : Type 1} → statement M
 branch-variable-spec =
@@ -150,11 +162,14 @@ branch-variable-spec =
     mul-p
     element-copy-out-p
     push-parts-requires
+    sides-requires
     returns
+    sides-requires-2
     returns-2
     add-if3
     returns-3
     cast-first
     add-taken-requires
     push-parts-requires-2
+    sides-requires-3
     returns-4)
