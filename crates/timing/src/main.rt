@@ -1,0 +1,138 @@
+// Does a job from standard input many times; then one line with the sum over all answers. Time is taken from outside, since the
+// kit's clock fills a struct behind a reference.
+// A job: ten numbers of four bytes, low byte first, then the program's bytes and the argument bytes.
+// The numbers: mode (1 check, 2 run), repetitions, length of program, length of arguments, entry, budget, lengths of the lent cells
+// (numbers), stack (numbers), frames (numbers, three to a record) and output.
+use blocks::long_at;
+use libc::STDIN_FILENO;
+use libc::STDOUT_FILENO;
+use rules::answers::Answer;
+use rules::answers::Ending;
+use rules::answers::Verdict;
+
+// A number for a verdict: 100 where it is accepted, else the refusal's.
+fn verdict_number(verdict: Verdict) -> u64 {
+    match verdict {
+        Verdict::Accepted(_) => 100,
+        Verdict::Refused(reason) => {
+            let told = report::numbers_of(reason);
+            told.number as u64
+        }
+    }
+}
+
+// A number for an ending: 100 for a result, 101 where the program gave up, else the refusal's.
+fn ending_number(ending: Ending) -> u64 {
+    match ending {
+        Ending::Result(_) => 100,
+        Ending::Aborted => 101,
+        Ending::Refused(reason) => {
+            let told = report::numbers_of(reason);
+            told.number as u64
+        }
+    }
+}
+
+fn checks(program: &[u8], times: u32) -> u64 {
+    let mut sum: u64 = 0;
+    let mut left = times;
+    while 0 < left {
+        let verdict = verifier::check(program);
+        sum = std::num::wrapping_add_u64(sum, verdict_number(verdict));
+        left -= 1;
+    }
+    sum
+}
+
+fn runs(
+    program: &[u8],
+    entry: u32,
+    arguments: &[u8],
+    budget: u32,
+    cells: &mut [u16],
+    stack: &mut [u16],
+    frames: &mut [u16],
+    out: &mut [u8],
+    times: u32,
+) -> u64 {
+    let mut sum: u64 = 0;
+    let mut left = times;
+    while 0 < left {
+        let answer = interpreter::run(program, entry, arguments, budget, cells, stack, frames, out);
+        let ending = answer.ending;
+        sum = std::num::wrapping_add_u64(sum, ending_number(ending));
+        sum = std::num::wrapping_add_u64(sum, answer.steps as u64);
+        left -= 1;
+    }
+    sum
+}
+
+fn line(sum: u64) {
+    io::print_decimal(STDOUT_FILENO, sum);
+    io::write_all(STDOUT_FILENO, b"\n");
+}
+
+fn time_runs(header: &[u8; 40], program: &[u8], arguments: &[u8]) {
+    let cells = long_at(header, 24) as usize;
+    let stack = long_at(header, 28) as usize;
+    let frames = long_at(header, 32) as usize;
+    let out = long_at(header, 36) as usize;
+    if 327680 < cells {
+        return;
+    }
+    if 65535 < stack {
+        return;
+    }
+    if 196605 < frames {
+        return;
+    }
+    if 65536 < out {
+        return;
+    }
+    let mut lent_cells = [0u16; 327680];
+    let mut lent_stack = [0u16; 65535];
+    let mut lent_frames = [0u16; 196605];
+    let mut lent_out = [0u8; 65536];
+    let sum = runs(
+        program,
+        long_at(header, 16),
+        arguments,
+        long_at(header, 20),
+        &mut lent_cells[0..cells],
+        &mut lent_stack[0..stack],
+        &mut lent_frames[0..frames],
+        &mut lent_out[0..out],
+        long_at(header, 4),
+    );
+    line(sum);
+}
+
+fn do_job(header: &[u8; 40], program: &[u8], arguments: &[u8]) {
+    if long_at(header, 0) == 1 {
+        line(checks(program, long_at(header, 4)));
+        return;
+    }
+    time_runs(header, program, arguments);
+}
+
+fn read_and_do(header: &[u8; 40], program: &mut [u8], arguments: &mut [u8]) {
+    io::read_full(STDIN_FILENO, program);
+    io::read_full(STDIN_FILENO, arguments);
+    do_job(header, program, arguments);
+}
+
+fn main() {
+    let mut header = [0u8; 40];
+    let mut program = [0u8; 32768];
+    let mut arguments = [0u8; 65536];
+    io::read_full(STDIN_FILENO, &mut header);
+    let n = long_at(&header, 8) as usize;
+    let m = long_at(&header, 12) as usize;
+    if 32768 < n {
+        return;
+    }
+    if 65536 < m {
+        return;
+    }
+    read_and_do(&header, &mut program[0..n], &mut arguments[0..m]);
+}
