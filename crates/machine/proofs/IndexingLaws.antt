@@ -1,5 +1,5 @@
 -- The index is filled entry by entry: what a store adds, and what it keeps.
-use mathlib.Core.Path.{_≡_, refl, sym, ap, _∙_}
+use mathlib.Core.Path.{_≡_, ap, _∙_}
 use mathlib.Core.List.{List}
 use Prim.Native.Nat.{ℕ, _+_, _*_, _≤_, _<_}
 use native.Mathlib.Omega.{arith}
@@ -7,18 +7,13 @@ use borrow.Author.Count.{below-more}
 use lib.ListN.{length, getD, set, length-set}
 use lib.Seq.{getD-set-same, getD-set-other}
 use native.Mathlib.Nat.{le-trans}
-use mathlib.Core.Bool.{Bool, true, _&&_}
-use lib.Dec.{leb, eqb}
-use borrow.Author.Tests.{leb-true}
-use Rattle.rules.proofs.ListLaws.{and-left, and-right}
 use Rattle.rules.specs.declared.records.Header.{Header}
 use Rattle.rules.specs.declared.records.HeadRecord.{HeadRecord}
-use Rattle.rules.specs.Base.{byteAt, wordAt, within}
+use Rattle.rules.specs.Base.{byteAt, wordAt}
 use Rattle.rules.specs.Container.{payload}
-use Rattle.rules.specs.Records.{constructorOffset, headOffset, codeOffset, headAt, headerRight}
-use Rattle.rules.specs.Opened.{Opened, OpenedProgram}
-use Rattle.rules.proofs.RecordLaws.{records-there}
-use Rattle.program.proofs.LayoutLaws.{constructors-count, functions-count, functions-few, constructor-there, head-placed, function-placed}
+use Rattle.rules.specs.Records.{constructorOffset, headOffset, codeOffset, headAt}
+use Rattle.rules.specs.Opened.{OpenedProgram}
+use Rattle.program.proofs.LayoutLaws.{constructors-count, functions-count, constructors-few, functions-few, constructor-there, head-placed, function-placed}
 use Rattle.machine.specs.Indexed.{FunctionIndexed, Indexed}
 use Rattle.machine.specs.Indexing.{Constructing, Constructed, Functioned, functionPut}
 
@@ -87,19 +82,9 @@ module _ {file : List ℕ} {n : ℕ} where
 
 ---- Of an opened program
 
-few-constructors : (h : Header) → headerRight h ≡ true → h .constructors ≤ 64
-unfolding headerRight
-few-constructors h e =
-    let first : Bool = eqb (h .edition) 1 && within 1 32 (h .types) in
-    let c = and-right first (within 1 64 (h .constructors)) (and-left (first && within 1 64 (h .constructors)) (within 1 32 (h .functions)) e) in
-    leb-true _ _ (and-right (leb 1 (h .constructors)) (leb (h .constructors) 64) c)
-
 module _ {file : List ℕ} {n : ℕ} {h : Header} {heads : List ℕ} (o : OpenedProgram file n h heads) where
-  constructors-few : h .constructors ≤ 64
-  constructors-few = few-constructors h (ap headerRight (o .header) ∙ records-there (payload file) (o .right) .header-right)
-
   pub constructing : Constructing file n (h .constructors)
-  constructing = record { opened = o .opened; few = constructors-few; there = λ c l. constructor-there o c l .0 }
+  constructing = record { opened = o .opened; few = constructors-few o; there = λ c l. constructor-there o c l .0 }
 
   -- the number of constructors as the payload has it
   abbrev count : ℕ
@@ -113,7 +98,7 @@ module _ {file : List ℕ} {n : ℕ} {h : Header} {heads : List ℕ} (o : Opened
       → Functioned file n count (f + 1) (functionPut index f at r)
   functioned-on {f} {at} k l e q =
       let place : at ≡ headOffset (payload file) f = e ∙ head-placed o f l in
-      functioned-next k (omega (arith, constructors-few, constructors-count o)) (le-trans l (functions-few o))
+      functioned-next k (omega (arith, constructors-few o, constructors-count o)) (le-trans l (functions-few o))
       (ap (λ (x : HeadRecord). x .declaration .arity) q ∙ ap (λ (x : ℕ). byteAt (payload file) (x + 1)) place)
       (ap (λ (x : HeadRecord). at + 10 + 6 * x .alternatives) q ∙ ap (λ (x : ℕ). codeOffset (payload file) x) place)
       (ap (λ (x : HeadRecord). x .instructions) q ∙ ap (λ (x : ℕ). wordAt (payload file) (x + 8)) place)

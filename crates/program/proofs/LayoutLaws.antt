@@ -11,7 +11,7 @@ use Rattle.rules.specs.Records.{constructorAt, constructorOffset, headOffset, h
 use Rattle.rules.specs.Opened.{OpenedProgram, FunctionThere, RecordsThere}
 use Rattle.rules.proofs.NumberedLaws.{each-numbered}
 use Rattle.rules.proofs.RecordLaws.{records-there}
-use Rattle.program.proofs.OpenLaws.{few-functions}
+use Rattle.program.proofs.OpenLaws.{few-constructors, few-functions}
 
 -- a rule at constructor c, and at function g
 abbrev pub atConstructor : {A : Type 0} → (ℕ → Constructor → Tried A) → List ℕ → ℕ → Check
@@ -32,6 +32,9 @@ module _ {file : List ℕ} {n : ℕ} {h : Header} {heads : List ℕ} (o : Opened
 
   pub functions-count : h .functions ≡ byteAt (payload file) 3
   functions-count = ap (λ (x : Header). x .functions) (o .header)
+
+  pub constructors-few : h .constructors ≤ 64
+  constructors-few = few-constructors h (ap headerRight (o .header) ∙ records .header-right)
 
   pub functions-few : h .functions ≤ 32
   functions-few = few-functions h (ap headerRight (o .header) ∙ records .header-right)

@@ -22,7 +22,7 @@ use Rattle.rules.specs.Answers.{refusalOf, toldCheck}
 use Rattle.rules.specs.Container.{payload}
 use Rattle.rules.specs.Records.{headerAt, headAt, alternativeAt, headerRight, headRight, alternativeRight, alternativeOffset, codeOffset, behind, headOffset, recordRight, constructorCheck, alternativeCheck, instructionCheck, functionRight, constructorsRight, functionsRight, nothingLeft, recordsRight}
 use Rattle.rules.specs.Opened.{Opened}
-use Rattle.rules.proofs.ListLaws.{and-right}
+use Rattle.rules.proofs.ListLaws.{and-left, and-right}
 use Rattle.rules.proofs.RecordLaws.{record-short, record-whole}
 use Rattle.program.specs.declared.Layout.{Layout}
 use Rattle.program.specs.Told.{PlacedRight, FunctionsRight, OpenedRight}
@@ -137,6 +137,13 @@ records-by p e₁ e₂ e₃ e₄ = rw (e₁, e₂, e₃, e₄)
 pub few-functions : (h : Header) → headerRight h ≡ true → h .functions ≤ 32
 unfolding headerRight
 few-functions h e = leb-true _ _ (and-right (leb 1 (h .functions)) (leb (h .functions) 32) (and-right (eqb (h .edition) 1 && within 1 32 (h .types) && within 1 64 (h .constructors)) (within 1 32 (h .functions)) e))
+
+pub few-constructors : (h : Header) → headerRight h ≡ true → h .constructors ≤ 64
+unfolding headerRight
+few-constructors h e =
+    let first : Bool = eqb (h .edition) 1 && within 1 32 (h .types) in
+    let c = and-right first (within 1 64 (h .constructors)) (and-left (first && within 1 64 (h .constructors)) (within 1 32 (h .functions)) e) in
+    leb-true _ _ (and-right (leb 1 (h .constructors)) (leb (h .constructors) 64) c)
 
 module _ {file : List ℕ} {n : ℕ} (o : Opened file n) where
   opened-refused : {q : Reason} {r : Checked} (l : Layout) → recordsRight (payload file) ≡ refused (refusalOf q) → r ≡ Refused q → OpenedRight file n r l

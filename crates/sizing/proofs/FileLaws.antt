@@ -6,7 +6,7 @@ use mathlib.Core.Bool.{Bool, true, false}
 use Prim.Native.Nat.{ℕ, zero, suc, _+_, _-_, _≤_, _<_, zero-le}
 use native.Mathlib.Omega.{arith}
 use native.Mathlib.Nat.{zero-add}
-use lib.ListN.{length, take, drop, getD, getElem?, length-map, List·getD-map, List·getD-eq-default}
+use lib.ListN.{length, take, drop, getD, getElem?, length-map, List·getD-map}
 use lib.Seq.{getD-take, length-take-le, ext-getD}
 use lib.Dec.{leb, ltb}
 use borrow.Author.Tests.{leb-true, ltb-true, ltb-false}
@@ -23,10 +23,10 @@ use Rattle.rules.proofs.ListLaws.{none-some, some-inj, and-left, and-right, all
 use Rattle.rules.proofs.TriedLaws.{required, each-found}
 use Rattle.rules.proofs.NumberedLaws.{numbered-length, numbered-at, numbered-past}
 use Rattle.rules.proofs.RecordLaws.{arguments-length}
-use Rattle.rules.proofs.ContainerLaws.{opened-byte}
+use Rattle.tables.proofs.TableLaws.{byte-small}
 use Rattle.sizing.specs.declared.forms.Bound.{Bound}
 use Rattle.sizing.specs.Forms.{boundIn, noRow, BoundRight}
-use Rattle.sizing.specs.Routines.{BoundIs}
+use Rattle.sizing.specs.Routines.{Tables, BoundIs}
 use Rattle.sizing.specs.Walking.{programIn, functionIn, Walking}
 use Rattle.sizing.proofs.ListLaws.{getD-element, element-at}
 use Rattle.sizing.proofs.OwnLaws.{widened-past}
@@ -57,14 +57,7 @@ numbered-list g d f xs n l h =
     at : (i : ℕ) → i < n → getD (map g (take n xs)) i (g d) ≡ g (f i)
     at i k = List·getD-map g (take n xs) i d ∙ ap g (getD-take n xs i d k ∙ h i k)
 
-module _ {file : List ℕ} {n : ℕ} {heads : List ℕ} (w : Walking file n heads) where
-  byte-small : (k : ℕ) → byteAt (payload file) k < 256
-  byte-small k = go (ltb k n) refl
-    where
-      go : (t : Bool) → ltb k n ≡ t → byteAt (payload file) k < 256
-      go true l = rw (← opened-byte (w .records .opened) k (ltb-true k n l)) (all-getD _ 0 (omega arith) (w .bytes))
-      go false l = let z = w .records .opened .long in rw (List·getD-eq-default (payload file) 0 {n = k} (omega (arith, ltb-false k n l))) (omega arith)
-
+module _ {file : List ℕ} {n : ℕ} {ts : Tables} (w : Walking file n ts) where
   ---- Constructors
 
   pub constructor-named : (c : ℕ) (k : Constructor) → constructor (programIn file) c ≡ some k → (c < byteAt (payload file) 2) × (k ≡ constructorOf (constructorAt (payload file) (constructorOffset c)))
@@ -82,7 +75,7 @@ module _ {file : List ℕ} {n : ℕ} {heads : List ℕ} (w : Walking file n head
       (long, omega arith, ap (λ (y : Constructor). y .weight) (r .1))
 
   pub light : Light (programIn file)
-  light c k e = omega (arith, constructor-read c k e .2, byte-small (constructorOffset c + 6))
+  light c k e = omega (arith, constructor-read c k e .2, byte-small (w .records .opened) (w .records .bytes) (constructorOffset c + 6))
 
   ---- Functions
 
@@ -173,7 +166,7 @@ module _ {file : List ℕ} {n : ℕ} {heads : List ℕ} (w : Walking file n head
             each = λ i l. rw (row-is i l) (record {
               four = refl;
               small = small-at i l;
-              constant = omega (arith, byte-small (alternativeOffset (headOffset (payload file) g) i + 4), byte-small (alternativeOffset (headOffset (payload file) g) i + 4 + 1));
+              constant = omega (arith, byte-small (w .records .opened) (w .records .bytes) (alternativeOffset (headOffset (payload file) g) i + 4), byte-small (w .records .opened) (w .records .bytes) (alternativeOffset (headOffset (payload file) g) i + 4 + 1));
             });
           }
 
@@ -191,7 +184,7 @@ module _ {file : List ℕ} {n : ℕ} {heads : List ℕ} (w : Walking file n head
         fits = λ i l. rw (row-is i l) (record {
           narrow = omega (arith, length-take-le (byteAt (payload file) (headOffset (payload file) g + 1)) (fourAt (payload file) (alternativeOffset (headOffset (payload file) g) i)) (here .arity));
           small = λ k. taken (byteAt (payload file) (headOffset (payload file) g + 1)) (fourAt (payload file) (alternativeOffset (headOffset (payload file) g) i)) k (small-at i l k);
-          constant = omega (arith, byte-small (alternativeOffset (headOffset (payload file) g) i + 4), byte-small (alternativeOffset (headOffset (payload file) g) i + 4 + 1));
+          constant = omega (arith, byte-small (w .records .opened) (w .records .bytes) (alternativeOffset (headOffset (payload file) g) i + 4), byte-small (w .records .opened) (w .records .bytes) (alternativeOffset (headOffset (payload file) g) i + 4 + 1));
         });
         padded = λ i l. rw (row-is i l)
             (widened-past (byteAt (payload file) (headOffset (payload file) g + 1)) 0 (fourAt (payload file) (alternativeOffset (headOffset (payload file) g) i)) (wordAt (payload file) (alternativeOffset (headOffset (payload file) g) i + 4))

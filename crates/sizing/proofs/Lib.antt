@@ -25,3 +25,4 @@ pub mod StraightLaws
 pub mod MoveLaws
 pub mod SlotLaws
 pub mod SizesLaws
+pub mod RowLaws

@@ -26,7 +26,8 @@ use Rattle.sizing.specs.declared.forms.Form.{Form}
 use Rattle.sizing.specs.Put.{Wide, AllWide, Below, AllBelow}
 use Rattle.sizing.specs.Forms.{formIn, Entry, Made, noForm}
 use Rattle.sizing.specs.Right.{Held, LineRight}
-use Rattle.sizing.proofs.ListLaws.{all-holds, all-last-fails, element-at, getD-of-map, map-take, map-drop, drop-take, take-stored, stored-each}
+use Rattle.tables.proofs.TableLaws.{stored-each}
+use Rattle.sizing.proofs.ListLaws.{all-holds, all-last-fails, element-at, getD-of-map, map-take, map-drop, drop-take, take-stored}
 use Rattle.sizing.proofs.CoverLaws.{matches-under}
 use Rattle.sizing.proofs.RightLaws.{form-length}
 

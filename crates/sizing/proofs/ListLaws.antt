@@ -8,9 +8,7 @@ use native.Mathlib.Omega.{arith}
 use native.Mathlib.Numerals.{add-one}
 use native.Mathlib.Nat.{zero-add, suc-add}
 use lib.ListN.{length, getD, set, take, drop, getElem?}
-use lib.Seq.{take-suc, take-nil, take-suc-set, getD-set-same, getD-set-other}
-use lib.Dec.{eqb}
-use borrow.Author.Tests.{eqb-true, eqb-false}
+use lib.Seq.{take-suc, take-nil, take-suc-set}
 use Rattle.rules.specs.Base.{all}
 use Rattle.rules.specs.Lists.{All, l[], _l∷_}
 use Rattle.rules.proofs.ListLaws.{none-some, some-inj}
@@ -81,11 +79,3 @@ getD-element d (y ∷ xs) (suc k) e = getD-element d xs k e
 
 pub take-stored : {A : Type 0} (l xs : List A) (k : ℕ) (x : A) → k < length l → take k l ≡ xs → take (k + 1) (set l k x) ≡ xs ++ (x ∷ [])
 take-stored l xs k x h e = rw (add-one k) (take-suc-set l k x h ∙ ap (λ (z : List _). z ++ (x ∷ [])) e)
-
--- what holds of each of the first i entries, after a store at i
-pub stored-each : {A : Type 0} (d : A) (P : ℕ → A → Type 0) (r : List A) (i : ℕ) (x : A) → i < length r → ((j : ℕ) → j < i → P j (getD r j d)) → P i x → (j : ℕ) → j < i + 1 → P j (getD (set r i x) j d)
-stored-each d P r i x h q p j l = go (eqb j i) refl
-  where
-    go : (t : Bool) → eqb j i ≡ t → P j (getD (set r i x) j d)
-    go true e = rw (eqb-true j i e, getD-set-same r i x d h) p
-    go false e = rw (getD-set-other r i j x d (eqb-false j i e)) (q j (omega (arith, eqb-false j i e)))

@@ -14,13 +14,13 @@ use Rattle.rules.specs.Program.{Constructor, Function, arity, constructor, func
 use Rattle.rules.specs.Records.{instructionAt, codeOffset, headOffset, instructionOf}
 use Rattle.rules.specs.Stacks.{slot}
 use Rattle.sizing.specs.Chart.{At}
-use Rattle.sizing.specs.Routines.{OperandThere}
+use Rattle.sizing.specs.Routines.{Tables, OperandThere}
 use Rattle.sizing.specs.Walking.{programIn, functionIn, Walking}
 use Rattle.sizing.proofs.ChartLaws as chart
 use Rattle.sizing.proofs.ChartLaws.{Branches}
 use Rattle.sizing.proofs.FileLaws.{constructor-named, function-named, here, few-parameters, code-length, some-code, code-at, flow-found, types-found}
 
-module _ {file : List ℕ} {n : ℕ} {heads : List ℕ} (w : Walking file n heads) {g : ℕ} (t : g < byteAt (payload file) 3) where
+module _ {file : List ℕ} {n : ℕ} {ts : Tables} (w : Walking file n ts) {g : ℕ} (t : g < byteAt (payload file) 3) where
   pub at-start : At (programIn file) g (functionIn file g) 1 (arity (functionIn file g)) false
   at-start = chart.at-start (programIn file) g (functionIn file g) (flow-found w g t .1) (types-found w g t .1) (few-parameters w g t) (some-code w g t)
 

@@ -1,7 +1,7 @@
 -- The walk over all functions: the first refusal counts.
 use mathlib.Core.Path.{_≡_, sym, ap, _∙_}
-use mathlib.Core.List.{List, [], _∷_}
-use Prim.Native.Nat.{ℕ, suc, _+_, _-_, _≤_, _<_}
+use mathlib.Core.List.{List}
+use Prim.Native.Nat.{ℕ, _+_, _-_, _≤_, _<_}
 use native.Mathlib.Omega.{arith}
 use lib.ListN.{getD}
 use Rattle.rules.specs.declared.answers.Checked.{Checked}
@@ -10,49 +10,51 @@ use Rattle.rules.specs.declared.answers.Reason.{Reason}
 use Rattle.rules.specs.declared.records.Header.{Header}
 use Rattle.rules.specs.Base.{refused, Check, passed, only, forEach, byteAt}
 use Rattle.rules.specs.Container.{payload}
-use Rattle.rules.specs.Records.{headerAt, headOffset, functionOf, programOf}
+use Rattle.rules.specs.Records.{headOffset, functionOf, programOf}
 use Rattle.rules.specs.Shapes.{shapesOf, sizesRight}
-use Rattle.rules.specs.Lists.{l[], _l∷_}
-use Rattle.rules.specs.Facts.{Bytes}
 use Rattle.rules.specs.Answers.{refusalOf, toldCheck}
 use Rattle.rules.proofs.RecordLaws.{records-there}
 use Rattle.rules.proofs.NumberedLaws.{each-numbered, forEach-go, forEach-stop, forEach-none}
-use Rattle.program.proofs.OpenLaws.{few-functions}
+use Rattle.tables.specs.Tables.{AlternativeRows}
+use Rattle.program.proofs.LayoutLaws.{constructors-count, functions-count, constructors-few, functions-few}
+use Rattle.sizing.specs.Routines.{tables}
 use Rattle.sizing.specs.Walking.{programIn, functionIn, Walking}
 use Rattle.sizing.specs.Moves.{FunctionAsks, SizesAsk}
-
-all-bytes : (xs : List ℕ) → ((k : ℕ) → getD xs k 0 < 256) → Bytes xs
-all-bytes [] h = l[]
-all-bytes (x ∷ xs) h = _l∷_ {x = x} (h 0) (all-bytes xs (λ k. h (suc k)))
 
 -- function g
 abbrev pub functionCheck : List ℕ → ℕ → Check
 functionCheck file g = only (shapesOf (programIn file) g (functionIn file g))
 
-module _ {file : List ℕ} {n : ℕ} {header : Header} {heads : List ℕ} (a : SizesAsk file n header heads) where
-  pub sizes-walking : ((k : ℕ) → getD file k 0 < 256) → Walking file n heads
-  sizes-walking bytes =
-      let t = records-there (payload file) (a .program .right) in
-      record {
-        records = record { opened = a .program .opened; there = t; few = few-functions (headerAt (payload file) 0) (t .header-right); placed = a .program .placed };
-        bytes = all-bytes file bytes;
-        bounds = a .bounds;
-        flow = a .flow;
-        types = a .types;
-      }
+module _ {file : List ℕ} {n : ℕ} {header : Header} {heads : List ℕ} {constructors functions : List (List ℕ)} (a : SizesAsk file n header heads constructors functions) where
+  -- with the table of alternatives, and the bytes of the file
+  module _ {alternatives : List (List ℕ)} (rows : AlternativeRows (payload file) (header .functions) alternatives) (bytes : (k : ℕ) → getD file k 0 < 256) where
+    walking : Walking file n (tables constructors functions alternatives)
+    walking =
+        record {
+          records = record {
+            opened = a .program .opened;
+            bytes = bytes;
+            there = records-there (payload file) (a .program .right);
+            few-constructors = rw (constructors-count (a .program)) at (constructors-few (a .program));
+            few = rw (functions-count (a .program)) at (functions-few (a .program));
+            constructor = rw (constructors-count (a .program)) at (a .constructor);
+            function = rw (functions-count (a .program)) at (a .function);
+            alternative = rw (functions-count (a .program)) at rows;
+          };
+          bounds = a .bounds;
+          flow = a .flow;
+          types = a .types;
+        }
 
-  count-is : header .functions ≡ byteAt (payload file) 3
-  count-is = ap (λ (h : Header). h .functions) (a .program .header)
+    pub sizes-asks : {m : ℕ} → m ≡ header .functions → (g : ℕ) → g < m → FunctionAsks file n (tables constructors functions alternatives) g
+    sizes-asks is g h = record { walking = walking; there = let z = functions-count (a .program) in omega arith }
 
   -- m functions, of which g have passed
   module _ {m : ℕ} (is : m ≡ header .functions) where
-    pub sizes-asks : ((k : ℕ) → getD file k 0 < 256) → (g : ℕ) → g < m → FunctionAsks file n heads g
-    sizes-asks bytes g h = record { walking = sizes-walking bytes; there = let z = count-is in omega arith }
-
     pub sizes-start : sizesRight (programOf (payload file)) ≡ forEach (functionCheck file) 0 (m - 0)
     unfolding sizesRight programOf
     sizes-start =
-        let z : m - 0 ≡ byteAt (payload file) 3 = let y = count-is in omega arith in
+        let z : m - 0 ≡ byteAt (payload file) 3 = let y = functions-count (a .program) in omega arith in
         rw z (each-numbered (shapesOf (programIn file)) (λ g. functionOf (payload file) (headOffset (payload file) g)) (byteAt (payload file) 3) 0)
 
   module _ {m g : ℕ} (left : sizesRight (programOf (payload file)) ≡ forEach (functionCheck file) g (m - g)) where

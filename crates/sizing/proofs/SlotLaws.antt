@@ -28,7 +28,7 @@ use Rattle.sizing.specs.Splits.{variableE, through}
 use Rattle.sizing.specs.Right.{shapeIn, AllUnder}
 use Rattle.sizing.specs.Steps.{given}
 use Rattle.sizing.specs.Left.{outcome, leftFrom}
-use Rattle.sizing.specs.Routines.{RoutineIs}
+use Rattle.sizing.specs.Routines.{Tables, RoutineIs}
 use Rattle.sizing.specs.Walking.{programIn, functionIn}
 use Rattle.sizing.specs.Moves.{StartIs, Fit, FunctionAsks, StepAsks, standing, leaving, moveLeft, Lands, StepSays}
 use Rattle.sizing.proofs.WalkLaws.{first-put, outcome-end}
@@ -155,7 +155,7 @@ start-shape f x h s =
     let p : map (through []) (variables 0 (arity f)) ≡ variables 0 (arity f) = map-id (variables 0 (arity f)) in
     rw (s .taken, s .count, s .height, s .stack) (λ k. record { parameters = p k; count = arity f; stack = numbers-start (arity f) h k })
 
-module _ {file : List ℕ} {n : ℕ} {heads : List ℕ} {g : ℕ} (a : FunctionAsks file n heads g) {r : Routine} (is : RoutineIs (payload file) (headOffset (payload file) g) r) where
+module _ {file : List ℕ} {n : ℕ} {ts : Tables} {g : ℕ} (a : FunctionAsks file n ts g) {r : Routine} (is : RoutineIs (payload file) (headOffset (payload file) g) r) where
   pub routine-few : r .arity ≤ 4
   routine-few = omega (arith, is .arity, here (a .walking) g (a .there) .arity)
 
@@ -200,7 +200,7 @@ pub record Slots (file : List ℕ) (g : ℕ) (saved : List Saved) (i : ℕ) : Ty
   pub some-i : 1 ≤ i
   pub standing-in : Standing file g saved arrows i
 
-module _ {file : List ℕ} {n : ℕ} {heads : List ℕ} {g : ℕ} (a : FunctionAsks file n heads g) {r : Routine} (is : RoutineIs (payload file) (headOffset (payload file) g) r) where
+module _ {file : List ℕ} {n : ℕ} {ts : Tables} {g : ℕ} (a : FunctionAsks file n ts g) {r : Routine} (is : RoutineIs (payload file) (headOffset (payload file) g) r) where
   pub slots-start : (u x : Saved) → u .visited ≡ false → StartIs (r .arity) x → Slots file g (set (replicate 258 u) 1 x) 1
   unfolding shapesOf outcome
   slots-start u x e s =
@@ -220,7 +220,7 @@ module _ {file : List ℕ} {n : ℕ} {heads : List ℕ} {g : ℕ} (a : FunctionA
       pub slots-low : i ≤ 256
       slots-low = omega (arith, is .last, here (a .walking) g (a .there) .short-code)
 
-      pub slots-asks : StepAsks file n heads g r i (getD saved i noSaved)
+      pub slots-asks : StepAsks file n ts g r i (getD saved i noSaved)
       slots-asks = record { function = a; routine = is; some-i = s .some-i; last = l; fit = let z = slots-low in s .standing-in .fits i (omega arith) (omega arith) }
 
       module _ {m : Moved} (says : StepSays file g i (getD saved i noSaved) m) where

@@ -36,7 +36,7 @@ use Rattle.sizing.specs.Right.{shapeIn, LineRight}
 use Rattle.sizing.specs.Steps.{FormsAsks, FormsAre, OwnAsks, OwnIs}
 use Rattle.sizing.specs.Chart.{At}
 use Rattle.sizing.specs.Left.{leftFrom}
-use Rattle.sizing.specs.Routines.{MakerIs}
+use Rattle.sizing.specs.Routines.{Tables, MakerIs}
 use Rattle.sizing.specs.Walking.{programIn, functionIn, Makes, LineAsks}
 use Rattle.sizing.proofs.WalkLaws.{alike-past, alike-here, alike-put, outcome-alike, outcome-refused, outcome-goes, first-put}
 use Rattle.sizing.proofs.ReachLaws.{at-low, at-load, at-build, at-call, at-branch, at-some}
@@ -120,7 +120,7 @@ abbrev pub Line : List ℕ → ℕ → ℕ → Form → List Form → ℕ → Li
 Line file g start own stack₀ height₀ stack height j =
     (from : Shape) → LineRight (programIn file) (functionIn file g) from own stack₀ height₀ → LineGoes file g start from own stack height j
 
-module _ {file : List ℕ} {n : ℕ} {heads : List ℕ} {g : ℕ} {r : Routine} {start : ℕ} {st : Saved} (a : LineAsks file n heads g r start st) where
+module _ {file : List ℕ} {n : ℕ} {ts : Tables} {g : ℕ} {r : Routine} {start : ℕ} {st : Saved} (a : LineAsks file n ts g r start st) where
   ---- The start
 
   pub line-stack-asks : FormsAsks st

@@ -21,6 +21,7 @@ use Rattle.rules.specs.Walk.{Arrow, arriving, first}
 use Rattle.rules.specs.Shapes.{Shape}
 use Rattle.rules.specs.Opened.{OpenedProgram}
 use Rattle.rules.specs.Answers.{refusalOf}
+use Rattle.tables.specs.Tables.{ConstructorRows, FunctionRows}
 use Rattle.sizing.specs.declared.paths.Saved.{Saved}
 use Rattle.sizing.specs.declared.routines.Routine.{Routine}
 use Rattle.sizing.specs.declared.walk.Moved.{Moved}
@@ -28,7 +29,7 @@ use Rattle.sizing.specs.Right.{shapeIn, SavedRight}
 use Rattle.sizing.specs.Steps.{given}
 use Rattle.sizing.specs.Chart.{At}
 use Rattle.sizing.specs.Left.{leftFrom}
-use Rattle.sizing.specs.Routines.{RoutineIs}
+use Rattle.sizing.specs.Routines.{Tables, RoutineIs}
 use Rattle.sizing.specs.Walking.{programIn, functionIn, Walking, Makes}
 
 -- the parameters as variables
@@ -53,25 +54,25 @@ pub record Fit (file : List ℕ) (g i : ℕ) (st : Saved) : Type 0 where
   pub right : SavedRight (programIn file) (functionIn file g) st
   pub at : At (programIn file) g (functionIn file g) i (st .height) false
 
-pub record FunctionAsks (file : List ℕ) (n : ℕ) (heads : List ℕ) (g : ℕ) : Type 0 where
-  pub walking : Walking file n heads
+pub record FunctionAsks (file : List ℕ) (n : ℕ) (t : Tables) (g : ℕ) : Type 0 where
+  pub walking : Walking file n t
   pub there : g < byteAt (payload file) 3
 
 -- this instruction, where a state arrives
-pub record MoveAsks (file : List ℕ) (n : ℕ) (heads : List ℕ) (g i : ℕ) (st : Saved) (ins : Instruction) : Type 0 where
-  pub function : FunctionAsks file n heads g
+pub record MoveAsks (file : List ℕ) (n : ℕ) (t : Tables) (g i : ℕ) (st : Saved) (ins : Instruction) : Type 0 where
+  pub function : FunctionAsks file n t g
   pub visited : st .visited ≡ true
   pub fit : Fit file g i st
   pub is : slot i (functionIn file g .code) ≡ some ins
 
-pub record LineMoveAsks (file : List ℕ) (n : ℕ) (heads : List ℕ) (g : ℕ) (r : Routine) (i : ℕ) (st : Saved) : Type 0 where
+pub record LineMoveAsks (file : List ℕ) (n : ℕ) (t : Tables) (g : ℕ) (r : Routine) (i : ℕ) (st : Saved) : Type 0 where
   pub ins : Instruction
-  pub move : MoveAsks file n heads g i st ins
+  pub move : MoveAsks file n t g i st ins
   pub makes : Makes ins
   pub routine : RoutineIs (payload file) (headOffset (payload file) g) r
 
-pub record StepAsks (file : List ℕ) (n : ℕ) (heads : List ℕ) (g : ℕ) (r : Routine) (i : ℕ) (st : Saved) : Type 0 where
-  pub function : FunctionAsks file n heads g
+pub record StepAsks (file : List ℕ) (n : ℕ) (t : Tables) (g : ℕ) (r : Routine) (i : ℕ) (st : Saved) : Type 0 where
+  pub function : FunctionAsks file n t g
   pub routine : RoutineIs (payload file) (headOffset (payload file) g) r
   pub some-i : 1 ≤ i
   pub last : i ≤ r .last
@@ -108,9 +109,11 @@ pub record StepSays (file : List ℕ) (g i : ℕ) (st : Saved) (m : Moved) : Typ
 
 ---- All functions
 
--- 4 to 8 have passed
-pub record SizesAsk (file : List ℕ) (n : ℕ) (header : Header) (heads : List ℕ) : Type 0 where
+-- 4 to 8 have passed, and constructors and functions are in tables
+pub record SizesAsk (file : List ℕ) (n : ℕ) (header : Header) (heads : List ℕ) (constructors functions : List (List ℕ)) : Type 0 where
   pub program : OpenedProgram file n header heads
+  pub constructor : ConstructorRows (payload file) (header .constructors) constructors
+  pub function : FunctionRows (payload file) (header .functions) functions
   pub declarations : declarationsRight (programOf (payload file)) ≡ passed
   pub bounds : boundsRight (programOf (payload file)) ≡ passed
   pub flow : flowRight (programOf (payload file)) ≡ passed

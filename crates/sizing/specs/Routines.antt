@@ -1,24 +1,43 @@
--- What the code reads of a function, a build and a call.
+-- What the code looks up of a function, a build and a call.
 use mathlib.Core.Path.{_≡_}
 use mathlib.Core.List.{List, [], _∷_}
 use mathlib.Core.Bool.{true, false}
-use Prim.Native.Nat.{ℕ, _+_, _≤_, _<_}
+use Prim.Native.Nat.{ℕ, _+_, _*_, _≤_, _<_}
 use lib.ListN.{length, getD}
+use Rattle.rules.specs.declared.records.AlternativeRecord.{AlternativeRecord}
 use Rattle.rules.specs.declared.records.Instruction.{Instruction}
 use Rattle.rules.specs.declared.records.Instruction.the-variants.{Load, Build, Call, Branch, Return, Stop}
 use Rattle.rules.specs.Base.{byteAt, wordAt}
 use Rattle.rules.specs.Container.{payload}
 use Rattle.rules.specs.Records.{alternativeAt, constructorOffset, alternativeOffset, codeOffset, headOffset}
 use Rattle.rules.specs.Opened.{Opened, RecordsThere}
+use Rattle.tables.specs.Tables.{alternativeIn, ConstructorRows, FunctionRows, AlternativeRows}
 use Rattle.sizing.specs.declared.forms.Bound.{Bound}
 use Rattle.sizing.specs.declared.routines.Routine.{Routine}
 use Rattle.sizing.specs.declared.routines.Maker.{Maker}
 use Rattle.sizing.specs.Forms.{noRow}
 
-pub record BoundAsks (file : List ℕ) (n at count : ℕ) : Type 0 where
-  pub opened : Opened file n
+-- the tables that the walk looks things up in
+pub record Tables : Type 0 where
+  pub constructors : List (List ℕ)
+  pub functions : List (List ℕ)
+  pub alternatives : List (List ℕ)
+
+abbrev pub tables : List (List ℕ) → List (List ℕ) → List (List ℕ) → Tables
+tables constructors functions alternatives = record { constructors = constructors; functions = functions; alternatives = alternatives }
+
+---- What is looked up
+
+-- function g has so many alternatives, whose coefficients are bytes
+pub record BoundAsks (rows : List (List ℕ)) (g count : ℕ) : Type 0 where
+  pub place : g < 32
   pub few : count ≤ 4
-  pub there : (k : ℕ) → k < count → alternativeOffset at k + 6 ≤ n
+  pub small : (k j : ℕ) → k < count → j < 4 → getD (getD rows (4 * g + k) []) j 0 < 256
+
+pub record BoundOf (rows : List (List ℕ)) (g count : ℕ) (b : Bound) : Type 0 where
+  pub count-is : b .count ≡ count
+  pub long : length (b .rows) ≡ 4
+  pub row : (k : ℕ) → k < count → getD (b .rows) k noRow ≡ alternativeIn (getD rows (4 * g + k) [])
 
 -- the alternatives of the function whose head stands at an offset
 pub record BoundIs (bytes : List ℕ) (at count : ℕ) (b : Bound) : Type 0 where
@@ -53,16 +72,29 @@ OperandThere bytes (Branch c b) = c < byteAt bytes 2
 OperandThere bytes Return = Unit {0}
 OperandThere bytes Stop = Unit {0}
 
--- records that are right, and the offsets of the function heads
-pub record Records (file : List ℕ) (n : ℕ) (heads : List ℕ) : Type 0 where
+-- records that are right, and their tables
+pub record Records (file : List ℕ) (n : ℕ) (t : Tables) : Type 0 where
   pub opened : Opened file n
+  pub bytes : (k : ℕ) → getD file k 0 < 256
   pub there : RecordsThere (payload file)
+  pub few-constructors : byteAt (payload file) 2 ≤ 64
   pub few : byteAt (payload file) 3 ≤ 32
-  pub placed : (g : ℕ) → g < byteAt (payload file) 3 → getD heads g 0 ≡ headOffset (payload file) g
+  pub constructor : ConstructorRows (payload file) (byteAt (payload file) 2) (t .constructors)
+  pub function : FunctionRows (payload file) (byteAt (payload file) 3) (t .functions)
+  pub alternative : AlternativeRows (payload file) (byteAt (payload file) 3) (t .alternatives)
 
-pub record MakerAsks (file : List ℕ) (n : ℕ) (heads : List ℕ) (ins : Instruction) : Type 0 where
-  pub records : Records file n heads
+abbrev pub RoutineAsks : List ℕ → ℕ → Tables → ℕ → Type 0
+RoutineAsks file n t g = Records file n t × (g < byteAt (payload file) 3)
+
+pub record MakerAsks (file : List ℕ) (n : ℕ) (t : Tables) (ins : Instruction) : Type 0 where
+  pub records : Records file n t
   pub operand : OperandThere (payload file) ins
+
+-- a build, by its constructor's row
+abbrev pub buildMaker : List ℕ → Maker
+buildMaker row =
+    let one : AlternativeRecord = record { coefficients = 1 ∷ 1 ∷ 1 ∷ 1 ∷ []; constant = getD row 6 0 } in
+    record { makes = true; arity = getD row 1 0; bound = record { rows = one ∷ one ∷ one ∷ one ∷ []; count = 1 } }
 
 abbrev pub MakerIs : List ℕ → Instruction → Maker → Type 0
 MakerIs bytes (Load a) m = m .makes ≡ false

@@ -16,7 +16,6 @@ use Rattle.rules.specs.Types.{typesRight}
 use Rattle.rules.specs.Stacks.{slot}
 use Rattle.rules.specs.Walk.{Arrow, arriving, first}
 use Rattle.rules.specs.Shapes.{Shape}
-use Rattle.rules.specs.Facts.{Bytes}
 use Rattle.rules.specs.Answers.{refusalOf}
 use Rattle.sizing.specs.declared.routines.Routine.{Routine}
 use Rattle.sizing.specs.declared.paths.Saved.{Saved}
@@ -25,7 +24,7 @@ use Rattle.sizing.specs.declared.line.Straight.the-variants.{Ends, Refus
 use Rattle.sizing.specs.Right.{shapeIn, SavedRight}
 use Rattle.sizing.specs.Chart.{At}
 use Rattle.sizing.specs.Left.{leftFrom}
-use Rattle.sizing.specs.Routines.{Records, RoutineIs}
+use Rattle.sizing.specs.Routines.{Tables, Records, RoutineIs}
 
 abbrev pub programIn : List ℕ → Program
 programIn file = programOf (payload file)
@@ -35,9 +34,8 @@ abbrev pub functionIn : List ℕ → ℕ → Function
 functionIn file g = functionOf (payload file) (headOffset (payload file) g)
 
 -- records that are right, and 6, 7 and 8 hold
-pub record Walking (file : List ℕ) (n : ℕ) (heads : List ℕ) : Type 0 where
-  pub records : Records file n heads
-  pub bytes : Bytes file
+pub record Walking (file : List ℕ) (n : ℕ) (t : Tables) : Type 0 where
+  pub records : Records file n t
   pub bounds : boundsRight (programIn file) ≡ passed
   pub flow : flowRight (programIn file) ≡ passed
   pub types : typesRight (programIn file) ≡ passed
@@ -52,8 +50,8 @@ Makes (Branch c b) = ⊥
 Makes Return = ⊥
 Makes Stop = ⊥
 
-pub record LineAsks (file : List ℕ) (n : ℕ) (heads : List ℕ) (g : ℕ) (r : Routine) (start : ℕ) (st : Saved) : Type 0 where
-  pub walking : Walking file n heads
+pub record LineAsks (file : List ℕ) (n : ℕ) (t : Tables) (g : ℕ) (r : Routine) (start : ℕ) (st : Saved) : Type 0 where
+  pub walking : Walking file n t
   pub there : g < byteAt (payload file) 3
   pub routine : RoutineIs (payload file) (headOffset (payload file) g) r
   pub at : At (programIn file) g (functionIn file g) start (st .height) false

@@ -1,7 +1,7 @@
 // Size forms: how one is made of a size bound and the forms of its arguments.
 ghost use mathlib.Core.Path.{_≡_};
 ghost use mathlib.Core.List.{[], _∷_, _++_};
-ghost use Prim.Native.Nat.{ℕ, _+_, _≤_, _<_};
+ghost use Prim.Native.Nat.{_+_, _≤_, _<_};
 ghost use lib.ListN.{take};
 ghost use Rattle.rules.specs.Forms.{constantOnly, variableOnly, added, substituted, intoBound};
 ghost use Rattle.sizing.specs.Put.{Below, AllBelow, Wide};

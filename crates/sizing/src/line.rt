@@ -3,6 +3,7 @@ ghost use mathlib.Core.Path.{_≡_};
 ghost use Rattle.sizing.specs.Put.{widened};
 ghost use Rattle.sizing.specs.Forms.{RowRight};
 ghost use Rattle.sizing.specs.Steps.{FormsAsks, FormsAre, OwnAsks, OwnIs};
+ghost use Rattle.sizing.specs.Routines.{tables};
 ghost use Rattle.sizing.specs.Walking.{LineAsks, LineSays};
 use crate::cover::covered_by;
 use crate::forms::Bound;
@@ -101,13 +102,15 @@ fn place(function: usize, instruction: usize) -> Place
 pub fn straight_line(
     program: &[u8],
     n: usize,
-    heads: &[usize; 32],
+    constructors: &[[u16; 9]; 64],
+    functions: &[[u16; 9]; 32],
+    alternatives: &[[u16; 5]; 128],
     g: usize,
     f: Routine,
     start: usize,
     st: Saved,
 ) -> Straight
-    requires { ⌜ LineAsks (now program) n (now heads) g f start st ⌝ }
+    requires { ⌜ LineAsks (now program) n (tables (now constructors) (now functions) (now alternatives)) g f start st ⌝ }
     ensures { λ r. ⌜ LineSays (now (program .entry)) g start st r ⌝ }
 {
     let bound = f.bound;
@@ -123,7 +126,7 @@ pub fn straight_line(
     loop {
         let next = j + 1;
         let ins = instruction(program, n, f.base + 4 * (j - 1));
-        let m = maker_of(program, n, heads, ins);
+        let m = maker_of(constructors, functions, alternatives, ins);
         if !m.makes {
             let Instruction::Load(a) = ins else {
                 return Straight::Ends(next);

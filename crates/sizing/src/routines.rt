@@ -1,17 +1,15 @@
-// What the walk reads: a function's arity, bound and code, and what a build or a call takes and makes.
+// What the walk looks up: a function's arity, bound and code, and what a build or a call takes and makes.
 ghost use mathlib.Core.Path.{_≡_};
-ghost use Prim.Native.Nat.{ℕ, _+_, _≤_};
+ghost use mathlib.Core.List.{List};
+ghost use Prim.Native.Nat.{ℕ};
 ghost use Rattle.rules.specs.Container.{payload};
-ghost use Rattle.rules.specs.Opened.{Opened, FunctionThere};
-ghost use Rattle.rules.specs.Records.{constructorOffset};
-ghost use Rattle.sizing.specs.Routines.{BoundAsks, BoundIs, RoutineIs, BuildIs, MakerAsks, MakerIs};
+ghost use Rattle.rules.specs.Records.{headOffset};
+ghost use Rattle.sizing.specs.Routines.{tables, BoundAsks, BoundOf, RoutineAsks, RoutineIs, buildMaker, MakerAsks, MakerIs};
 use crate::forms::Bound;
-use program::alternative;
-use program::constructor;
-use program::head;
 use program::wide;
 use rules::records::AlternativeRecord;
 use rules::records::Instruction;
+use tables::alternative_in;
 
 // A function: its arity, its size bound, where its code starts, and how many instructions that has.
 pub struct Routine {
@@ -28,18 +26,19 @@ pub struct Maker {
     pub bound: Bound,
 }
 
-fn bound_at(program: &[u8], n: usize, at: usize, count: u8) -> Bound
-    requires { ⌜ BoundAsks (now program) n at count ⌝ }
-    ensures { λ r. ⌜ BoundIs (payload (now (program .entry))) at count r ⌝ }
+// The size bound of function g, which has so many alternatives.
+fn bound_of(alternatives: &[[u16; 5]; 128], g: usize, count: u16) -> Bound
+    requires { ⌜ BoundAsks (now alternatives) g count ⌝ }
+    ensures { λ r. ⌜ BoundOf (now (alternatives .entry)) g count r ⌝ }
 {
-    let k = wide(count);
+    let k = count as usize;
     let mut rows = [AlternativeRecord {
         coefficients: [0u8; 4],
         constant: 0,
     }; 4];
     let mut i: usize = 0;
     while i < k {
-        rows[i] = alternative(program, n, at + 10 + 6 * i);
+        rows[i] = alternative_in(alternatives[4 * g + i]);
         i += 1;
     }
     Bound {
@@ -48,51 +47,52 @@ fn bound_at(program: &[u8], n: usize, at: usize, count: u8) -> Bound
     }
 }
 
-// The function whose head stands at an offset.
-pub fn routine_at(program: &[u8], n: usize, at: usize) -> Routine
-    requires { ⌜ Opened (now program) n × FunctionThere (payload (now program)) at ⌝ }
-    ensures { λ r. ⌜ RoutineIs (payload (now (program .entry))) at r ⌝ }
+// Function g.
+pub fn routine_of(functions: &[[u16; 9]; 32], alternatives: &[[u16; 5]; 128], g: usize) -> Routine
+    requires { ⌜ ((file : List ℕ) × (n : ℕ) × (constructors : List (List ℕ)) × RoutineAsks file n (tables constructors (now functions) (now alternatives)) g) ⌝ }
+    ensures { λ r. ⌜ ((file : List ℕ) (n : ℕ) (constructors : List (List ℕ)) → RoutineAsks file n (tables constructors (now (functions .entry)) (now (alternatives .entry))) g → RoutineIs (payload file) (headOffset (payload file) g) r) ⌝ }
 {
-    let h = head(program, n, at);
-    let d = h.declaration;
-    let bound = bound_at(program, n, at, h.alternatives);
+    let row = functions[g];
+    let bound = bound_of(alternatives, g, row[6]);
     Routine {
-        arity: wide(d.arity),
+        arity: row[1] as usize,
         bound: bound,
-        base: at + 10 + 6 * wide(h.alternatives),
-        last: h.instructions as usize,
+        base: row[7] as usize,
+        last: row[8] as usize,
     }
 }
 
 // "A build is the single alternative of coefficients 1 and its weight".
-fn build_maker(program: &[u8], n: usize, c: u8) -> Maker
-    requires { ⌜ Opened (now program) n × (constructorOffset c + 8 ≤ n) ⌝ }
-    ensures { λ r. ⌜ BuildIs (payload (now (program .entry))) c r ⌝ }
+fn build_maker(row: [u16; 9]) -> Maker
+    ensures { λ r. ⌜ r ≡ buildMaker row ⌝ }
 {
-    let k = constructor(program, n, 4 + 8 * wide(c));
-    let d = k.declaration;
-    let row = AlternativeRecord {
+    let one = AlternativeRecord {
         coefficients: [1u8; 4],
-        constant: k.weight as u16,
+        constant: row[6],
     };
     Maker {
         makes: true,
-        arity: wide(d.arity),
+        arity: row[1] as usize,
         bound: Bound {
-            rows: [row; 4],
+            rows: [one; 4],
             count: 1,
         },
     }
 }
 
-pub fn maker_of(program: &[u8], n: usize, heads: &[usize; 32], ins: Instruction) -> Maker
-    requires { ⌜ MakerAsks (now program) n (now heads) ins ⌝ }
-    ensures { λ r. ⌜ MakerIs (payload (now (program .entry))) ins r ⌝ }
+pub fn maker_of(
+    constructors: &[[u16; 9]; 64],
+    functions: &[[u16; 9]; 32],
+    alternatives: &[[u16; 5]; 128],
+    ins: Instruction,
+) -> Maker
+    requires { ⌜ ((file : List ℕ) × (n : ℕ) × MakerAsks file n (tables (now constructors) (now functions) (now alternatives)) ins) ⌝ }
+    ensures { λ r. ⌜ ((file : List ℕ) (n : ℕ) → MakerAsks file n (tables (now (constructors .entry)) (now (functions .entry)) (now (alternatives .entry))) ins → MakerIs (payload file) ins r) ⌝ }
 {
     match ins {
-        Instruction::Build(c) => build_maker(program, n, c),
+        Instruction::Build(c) => build_maker(constructors[wide(c)]),
         Instruction::Call(g) => {
-            let f = routine_at(program, n, heads[wide(g)]);
+            let f = routine_of(functions, alternatives, wide(g));
             let bound = f.bound;
             Maker {
                 makes: true,

@@ -1,6 +1,6 @@
 // The splits of a path: what becomes of an alternative where a variable is taken apart.
 ghost use mathlib.Core.Path.{_≡_};
-ghost use Prim.Native.Nat.{ℕ, _+_, _≤_, _<_};
+ghost use Prim.Native.Nat.{_+_, _≤_, _<_};
 ghost use lib.ListN.{take};
 ghost use Rattle.sizing.specs.Put.{put, Below};
 ghost use Rattle.sizing.specs.Splits.{splitA, carried, Carrying};

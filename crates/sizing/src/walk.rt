@@ -1,5 +1,6 @@
 // The walk over a function's code in file order, and over all functions.
 ghost use mathlib.Core.Path.{_≡_};
+ghost use mathlib.Core.List.{List};
 ghost use Prim.Native.Nat.{ℕ, _≤_};
 ghost use Rattle.rules.specs.Answers.{toldCheck};
 ghost use Rattle.rules.specs.Base.{only, if_then_else_};
@@ -7,6 +8,7 @@ ghost use Rattle.rules.specs.Container.{payload};
 ghost use Rattle.rules.specs.Records.{programOf};
 ghost use Rattle.rules.specs.Shapes.{shapesOf, sizesRight};
 ghost use Rattle.rules.specs.declared.records.Instruction.the-variants as ins;
+ghost use Rattle.sizing.specs.Routines.{tables};
 ghost use Rattle.sizing.specs.Walking.{programIn, functionIn};
 ghost use Rattle.sizing.specs.Moves.{StartIs, StayIs, MoveAsks, LineMoveAsks, StepAsks, StepSays, FunctionAsks, SizesAsk};
 use crate::line::Straight;
@@ -16,9 +18,8 @@ use crate::paths::branch_variable;
 use crate::paths::load_variable;
 use crate::paths::unvisited;
 use crate::routines::Routine;
-use crate::routines::routine_at;
+use crate::routines::routine_of;
 use crate::splits::Split;
-use program::constructor;
 use program::instruction;
 use program::wide;
 use rules::answers::Checked;
@@ -26,6 +27,7 @@ use rules::answers::Place;
 use rules::answers::Reason;
 use rules::records::Header;
 use rules::records::Instruction;
+use tables::alternative_rows;
 
 // What leaves an instruction: a state for the slot of the next one and one for that of the else target, or for slot 0, which
 // is never read, where they are not visited; and the instruction to go on at.
@@ -97,22 +99,12 @@ fn slot_for(visited: bool, at: usize) -> usize
 }
 
 // A branch on constructor c, else b, at instruction i.
-fn branch(
-    program: &[u8],
-    n: usize,
-    heads: &[usize; 32],
-    g: usize,
-    i: usize,
-    st: Saved,
-    c: u8,
-    b: u16,
-) -> Moved
-    requires { ⌜ MoveAsks (now program) n (now heads) g i st (ins.Branch c b) ⌝ }
-    ensures { λ r. ⌜ StepSays (now (program .entry)) g i st r ⌝ }
+fn branch(constructors: &[[u16; 9]; 64], g: usize, i: usize, st: Saved, c: u8, b: u16) -> Moved
+    requires { ⌜ ((file : List ℕ) × (n : ℕ) × (functions : List (List ℕ)) × (alternatives : List (List ℕ)) × MoveAsks file n (tables (now constructors) functions alternatives) g i st (ins.Branch c b)) ⌝ }
+    ensures { λ r. ⌜ ((file : List ℕ) (n : ℕ) (functions alternatives : List (List ℕ)) → MoveAsks file n (tables (now (constructors .entry)) functions alternatives) g i st (ins.Branch c b) → StepSays file g i st r) ⌝ }
 {
-    let k = constructor(program, n, 4 + 8 * wide(c));
-    let d = k.declaration;
-    let r = branch_variable(st, c, d.arity, k.weight);
+    let row = constructors[wide(c)];
+    let r = branch_variable(st, c, row[1] as u8, row[6] as u8);
     if r.large {
         return refuse(Reason::TooManyForms(Place {
             function: g,
@@ -135,16 +127,28 @@ fn branch(
 fn line_move(
     program: &[u8],
     n: usize,
-    heads: &[usize; 32],
+    constructors: &[[u16; 9]; 64],
+    functions: &[[u16; 9]; 32],
+    alternatives: &[[u16; 5]; 128],
     g: usize,
     f: Routine,
     i: usize,
     st: Saved,
 ) -> Moved
-    requires { ⌜ LineMoveAsks (now program) n (now heads) g f i st ⌝ }
+    requires { ⌜ LineMoveAsks (now program) n (tables (now constructors) (now functions) (now alternatives)) g f i st ⌝ }
     ensures { λ r. ⌜ StepSays (now (program .entry)) g i st r ⌝ }
 {
-    let line = straight_line(program, n, heads, g, f, i, st);
+    let line = straight_line(
+        program,
+        n,
+        constructors,
+        functions,
+        alternatives,
+        g,
+        f,
+        i,
+        st,
+    );
     match line {
         Straight::Ends(j) => stay(j),
         Straight::Refused(reason) => refuse(reason),
@@ -155,13 +159,15 @@ fn line_move(
 fn step(
     program: &[u8],
     n: usize,
-    heads: &[usize; 32],
+    constructors: &[[u16; 9]; 64],
+    functions: &[[u16; 9]; 32],
+    alternatives: &[[u16; 5]; 128],
     g: usize,
     f: Routine,
     i: usize,
     st: Saved,
 ) -> Moved
-    requires { ⌜ StepAsks (now program) n (now heads) g f i st ⌝ }
+    requires { ⌜ StepAsks (now program) n (tables (now constructors) (now functions) (now alternatives)) g f i st ⌝ }
     ensures { λ r. ⌜ StepSays (now (program .entry)) g i st r ⌝ }
 {
     if !st.visited {
@@ -177,27 +183,64 @@ fn step(
             far: 0,
             on: i + 1,
         },
-        Instruction::Build(_) => line_move(program, n, heads, g, f, i, st),
-        Instruction::Call(_) => line_move(program, n, heads, g, f, i, st),
-        Instruction::Branch(c, b) => branch(program, n, heads, g, i, st, c, b),
+        Instruction::Build(_) => line_move(
+            program,
+            n,
+            constructors,
+            functions,
+            alternatives,
+            g,
+            f,
+            i,
+            st,
+        ),
+        Instruction::Call(_) => line_move(
+            program,
+            n,
+            constructors,
+            functions,
+            alternatives,
+            g,
+            f,
+            i,
+            st,
+        ),
+        Instruction::Branch(c, b) => branch(constructors, g, i, st, c, b),
         Instruction::Return => stay(i + 1),
         Instruction::Stop => stay(i + 1),
     }
 }
 
 // Function g: a slot for each instruction holds what arrives there.
-fn function_sizes(program: &[u8], n: usize, heads: &[usize; 32], g: usize) -> Checked
-    requires { ⌜ FunctionAsks (now program) n (now heads) g ⌝ }
+fn function_sizes(
+    program: &[u8],
+    n: usize,
+    constructors: &[[u16; 9]; 64],
+    functions: &[[u16; 9]; 32],
+    alternatives: &[[u16; 5]; 128],
+    g: usize,
+) -> Checked
+    requires { ⌜ FunctionAsks (now program) n (tables (now constructors) (now functions) (now alternatives)) g ⌝ }
     ensures { λ r. ⌜ toldCheck r ≡ only (shapesOf (programIn (now (program .entry))) g (functionIn (now (program .entry)) g)) ⌝ }
 {
-    let f = routine_at(program, n, heads[g]);
+    let f = routine_of(functions, alternatives, g);
     let mut saved = [unvisited(); 258];
     saved[1] = start_state(f.arity);
     let last = f.last;
     let mut i: usize = 1;
     while i <= last {
         let st = saved[i];
-        let m = step(program, n, heads, g, f, i, st);
+        let m = step(
+            program,
+            n,
+            constructors,
+            functions,
+            alternatives,
+            g,
+            f,
+            i,
+            st,
+        );
         let checked = m.checked;
         if let Checked::Refused(reason) = checked {
             return Checked::Refused(reason);
@@ -214,14 +257,22 @@ fn function_sizes(program: &[u8], n: usize, heads: &[usize; 32], g: usize) -> Ch
 }
 
 // For the crates above: 10 and 9 over all functions.
-pub fn sizes(program: &[u8], n: usize, header: Header, heads: &[usize; 32]) -> Checked
-    requires { ⌜ SizesAsk (now program) n header (now heads) ⌝ }
+pub fn sizes(
+    program: &[u8],
+    n: usize,
+    header: Header,
+    heads: &[usize; 32],
+    constructors: &[[u16; 9]; 64],
+    functions: &[[u16; 9]; 32],
+) -> Checked
+    requires { ⌜ SizesAsk (now program) n header (now heads) (now constructors) (now functions) ⌝ }
     ensures { λ r. ⌜ toldCheck r ≡ sizesRight (programOf (payload (now (program .entry)))) ⌝ }
 {
+    let alternatives = alternative_rows(program, n, header, heads, functions);
     let m = wide(header.functions);
     let mut g: usize = 0;
     while g < m {
-        let r = function_sizes(program, n, heads, g);
+        let r = function_sizes(program, n, constructors, functions, &alternatives, g);
         if let Checked::Refused(reason) = r {
             return Checked::Refused(reason);
         }

@@ -4,15 +4,15 @@ use mathlib.Core.List.{List}
 use Prim.Native.Nat.{ℕ, _+_, _*_, _≤_, _<_}
 use native.Mathlib.Omega.{arith}
 use native.Mathlib.Nat.{sub-zero}
-use lib.ListN.{length}
+use lib.ListN.{length, getD}
 use Rattle.rules.specs.declared.records.Instruction.{Instruction}
-use Rattle.rules.specs.declared.records.HeadRecord.{HeadRecord}
 use Rattle.rules.specs.Base.{Tried, only, wordAt, numbered}
 use Rattle.rules.specs.Opened.{Opened, FunctionThere}
 use Rattle.rules.specs.Container.{payload}
-use Rattle.rules.specs.Records.{headAt, instructionAt, instructionOf, alternativeOffset, codeOffset, instructionOffset, functionOf}
+use Rattle.rules.specs.Records.{instructionAt, instructionOf, codeOffset, headOffset, instructionOffset, functionOf}
 use Rattle.rules.specs.Walk.{Arrow, walk}
 use Rattle.rules.proofs.NumberedLaws.{numbered-length}
+use Rattle.tables.specs.Tables.{RowThere}
 use Rattle.typing.specs.declared.code.Code.{Code}
 use Rattle.typing.proofs.Walking.{rest}
 
@@ -28,14 +28,14 @@ pub record CodeThere (bytes : List ℕ) (n at : ℕ) (c : Code) : Type 0 where
   pub base : c .base ≡ codeOffset bytes at
   pub last : c .last ≡ wordAt bytes (at + 8)
 
-pub code-there : {file : List ℕ} {n : ℕ} (at : ℕ) (h : HeadRecord) (c : Code) → Opened file n → FunctionThere (payload file) at → h ≡ headAt (payload file) at
-    → (c .base ≡ alternativeOffset at (h .alternatives)) × (c .last ≡ h .instructions) → CodeThere (payload file) n at c
-code-there at h c o t e q = record {
-  there = t;
+pub code-there : {file : List ℕ} {n : ℕ} (g : ℕ) {row : List ℕ} {c : Code} → Opened file n → RowThere (payload file) g row
+    → (c .base ≡ getD row 7 0) × (c .last ≡ getD row 8 0) → CodeThere (payload file) n (headOffset (payload file) g) c
+code-there g o r q = record {
+  there = r .there;
   long = o .long;
   small = o .small;
-  base = q .0 ∙ ap (λ (x : HeadRecord). alternativeOffset at (x .alternatives)) e;
-  last = q .1 ∙ ap (λ (x : HeadRecord). x .instructions) e;
+  base = q .0 ∙ ap (λ (x : List ℕ). getD x 7 0) (r .is);
+  last = q .1 ∙ ap (λ (x : List ℕ). getD x 8 0) (r .is);
 }
 
 module _ {bytes : List ℕ} {n at : ℕ} {c : Code} (t : CodeThere bytes n at c) where

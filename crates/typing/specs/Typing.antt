@@ -2,18 +2,21 @@
 use mathlib.Core.Path.{_≡_}
 use mathlib.Core.List.{List, [], _∷_, _++_}
 use mathlib.Core.Bool.{Bool, _&&_}
-use Prim.Native.Nat.{ℕ, _-_, _≤_}
-use lib.ListN.{length, take, drop}
+use Prim.Native.Nat.{ℕ, _-_, _≤_, _<_}
+use lib.ListN.{length, take, drop, getD}
 use lib.Dec.{leb}
 use Rattle.rules.specs.declared.records.Header.{Header}
 use Rattle.rules.specs.declared.records.Instruction.{Instruction}
 use Rattle.rules.specs.declared.records.Instruction.the-variants.{Load, Build, Call, Branch, Return, Stop}
-use Rattle.rules.specs.Base.{Tried, found, refused, refusal, _>>=_, if_then_else_}
-use Rattle.rules.specs.Opened.{OpenedProgram}
+use Rattle.rules.specs.Base.{Tried, found, passed, refused, refusal, _>>=_, if_then_else_}
+use Rattle.rules.specs.Container.{payload}
+use Rattle.rules.specs.Flow.{flowRight}
 use Rattle.rules.specs.Program.{Function, Program}
+use Rattle.rules.specs.Records.{programOf}
 use Rattle.rules.specs.Walk.{Arrow}
 use Rattle.rules.specs.Stacks.{push}
 use Rattle.rules.specs.Types.{same, below, typesOn}
+use Rattle.tables.specs.Tables.{OpenedHeader, ConstructorRows, FunctionRows}
 use Rattle.typing.specs.declared.stack.Stack.{Stack}
 use Rattle.typing.specs.declared.stack.Cut.{Cut}
 use Rattle.typing.specs.declared.operation.Typed.{Typed}
@@ -85,6 +88,16 @@ Aims (Branch c b) = 1 ≤ b
 Aims Return = Unit {0}
 Aims Stop = Unit {0}
 
--- a program whose records are right, with its header
-abbrev pub OpenedHeader : List ℕ → ℕ → Header → Type 0
-OpenedHeader file n h = (heads : List ℕ) × OpenedProgram file n h heads
+-- a program whose records are right, with its header, and a row for each constructor and each function
+pub record Named (file : List ℕ) (n : ℕ) (h : Header) (constructors functions : List (List ℕ)) : Type 0 where
+  pub program : OpenedHeader file n h
+  pub bytes : (k : ℕ) → getD file k 0 < 256
+  pub constructor : ConstructorRows (payload file) (h .constructors) constructors
+  pub function : FunctionRows (payload file) (h .functions) functions
+
+-- such a program, which 7 passes
+pub record TypesAsk (file : List ℕ) (n : ℕ) (h : Header) (constructors functions : List (List ℕ)) : Type 0 where
+  pub program : OpenedHeader file n h
+  pub flow : flowRight (programOf (payload file)) ≡ passed
+  pub constructor : ConstructorRows (payload file) (h .constructors) constructors
+  pub function : FunctionRows (payload file) (h .functions) functions

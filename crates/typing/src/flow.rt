@@ -7,8 +7,9 @@ ghost use Rattle.rules.specs.Answers.{toldCheck};
 ghost use Rattle.rules.specs.Base.{only};
 ghost use Rattle.rules.specs.Container.{payload};
 ghost use Rattle.rules.specs.Flow.{flowOn, flowFrom, flowRule, flowOf, flowRight};
-ghost use Rattle.rules.specs.Opened.{Opened, FunctionThere, OpenedProgram};
-ghost use Rattle.rules.specs.Records.{functionOf, programOf};
+ghost use Rattle.rules.specs.Opened.{Opened};
+ghost use Rattle.rules.specs.Records.{headOffset, functionOf, programOf};
+ghost use Rattle.tables.specs.Tables.{OpenedHeader, FunctionRows, RowThere};
 ghost use Rattle.typing.specs.Flowing.{arrivalsOf, joinOf, nothing, FlowSays};
 use crate::code;
 use rules::answers::Checked;
@@ -110,12 +111,12 @@ fn flow_step(i: usize, last: usize, ins: Instruction, arrived: u8) -> Flowed
     }
 }
 
-// The flow of function g, whose head stands at an offset: a slot for each instruction has what arrives there, and slot 0 what goes nowhere.
-fn flow_of(program: &[u8], n: usize, g: usize, at: usize) -> Checked
-    requires { ⌜ Opened (now program) n × FunctionThere (payload (now program)) at ⌝ }
-    ensures { λ r. ⌜ toldCheck r ≡ only (flowOf g (functionOf (payload (now (program .entry))) at)) ⌝ }
+// The flow of function g, which has this row: a slot for each instruction has what arrives there, and slot 0 what goes nowhere.
+fn flow_of(program: &[u8], n: usize, g: usize, row: [u16; 9]) -> Checked
+    requires { ⌜ Opened (now program) n × RowThere (payload (now program)) g row ⌝ }
+    ensures { λ r. ⌜ toldCheck r ≡ only (flowOf g (functionOf (payload (now (program .entry))) (headOffset (payload (now (program .entry))) g))) ⌝ }
 {
-    let code = code::code_of(program::head(program, n, at), at);
+    let code = code::code_of(row);
     let last = code.last;
     let mut waiting = [0u8; 257];
     waiting[1] = 1;
@@ -140,14 +141,14 @@ fn flow_of(program: &[u8], n: usize, g: usize, at: usize) -> Checked
 }
 
 // For the crates above: number 7 over all functions.
-pub fn flows(program: &[u8], n: usize, header: Header, heads: &[usize; 32]) -> Checked
-    requires { ⌜ OpenedProgram (now program) n header (now heads) ⌝ }
+pub fn flows(program: &[u8], n: usize, header: Header, functions: &[[u16; 9]; 32]) -> Checked
+    requires { ⌜ OpenedHeader (now program) n header × FunctionRows (payload (now program)) (header .functions) (now functions) ⌝ }
     ensures { λ r. ⌜ toldCheck r ≡ flowRight (programOf (payload (now (program .entry)))) ⌝ }
 {
-    let functions = header.functions as usize;
+    let m = header.functions as usize;
     let mut g: usize = 0;
-    while g < functions {
-        let found = flow_of(program, n, g, heads[g]);
+    while g < m {
+        let found = flow_of(program, n, g, functions[g]);
         if let Checked::Refused(reason) = found {
             return Checked::Refused(reason);
         }

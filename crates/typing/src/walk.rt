@@ -1,14 +1,13 @@
 // Number 8: the types of the stack along the paths of a function's code.
 ghost use mathlib.Core.Path.{_≡_};
 ghost use Prim.Native.Nat.{_<_};
-ghost use lib.ListN.{getD};
 ghost use Rattle.rules.specs.Answers.{toldCheck};
 ghost use Rattle.rules.specs.Base.{only, passed};
 ghost use Rattle.rules.specs.Container.{payload};
 ghost use Rattle.rules.specs.Flow.{flowRight};
-ghost use Rattle.rules.specs.Opened.{OpenedProgram};
-ghost use Rattle.rules.specs.Records.{functionOf, programOf};
+ghost use Rattle.rules.specs.Records.{headOffset, functionOf, programOf};
 ghost use Rattle.rules.specs.Types.{typesOf, typesRight};
+ghost use Rattle.typing.specs.Typing.{Named, TypesAsk};
 use crate::code;
 use crate::stack;
 use crate::step;
@@ -18,14 +17,20 @@ use rules::answers::Reason;
 use rules::records::Header;
 
 // The types of function g: a slot for each instruction has the stack that arrives there, and slot 0 what goes nowhere.
-fn types_of(program: &[u8], n: usize, header: Header, heads: &[usize; 32], g: usize) -> Checked
-    requires { ⌜ OpenedProgram (now program) n header (now heads) × (flowRight (programOf (payload (now program))) ≡ passed) × (g < header .functions) ⌝ }
-    ensures { λ r. ⌜ toldCheck r ≡ only (typesOf (programOf (payload (now (program .entry)))) g (functionOf (payload (now (program .entry))) (getD (now (heads .entry)) g 0))) ⌝ }
+fn types_of(
+    program: &[u8],
+    n: usize,
+    header: Header,
+    constructors: &[[u16; 9]; 64],
+    functions: &[[u16; 9]; 32],
+    g: usize,
+) -> Checked
+    requires { ⌜ Named (now program) n header (now constructors) (now functions) × (flowRight (programOf (payload (now program))) ≡ passed) × (g < header .functions) ⌝ }
+    ensures { λ r. ⌜ toldCheck r ≡ only (typesOf (programOf (payload (now (program .entry)))) g (functionOf (payload (now (program .entry))) (headOffset (payload (now (program .entry))) g))) ⌝ }
 {
-    let at = heads[g];
-    let head = program::head(program, n, at);
-    let signature = head.declaration;
-    let code = code::code_of(head, at);
+    let row = functions[g];
+    let signature = tables::signature_in(row);
+    let code = code::code_of(row);
     let last = code.last;
     let none = stack::empty();
     let mut waiting = [none; 257];
@@ -35,7 +40,15 @@ fn types_of(program: &[u8], n: usize, header: Header, heads: &[usize; 32], g: us
         let i = k + 1;
         let ins = program::instruction(program, n, code.base + 4 * k);
         let here = waiting[i];
-        let typed = step::type_step(program, n, header, heads, signature.result, i, ins, here);
+        let typed = step::type_step(
+            header,
+            constructors,
+            functions,
+            signature.result,
+            i,
+            ins,
+            here,
+        );
         if typed.wrong {
             return Checked::Refused(Reason::BadTypes(Place {
                 function: g,
@@ -53,14 +66,20 @@ fn types_of(program: &[u8], n: usize, header: Header, heads: &[usize; 32], g: us
 }
 
 // For the crates above: number 8 over all functions, where 7 has passed.
-pub fn types(program: &[u8], n: usize, header: Header, heads: &[usize; 32]) -> Checked
-    requires { ⌜ OpenedProgram (now program) n header (now heads) × (flowRight (programOf (payload (now program))) ≡ passed) ⌝ }
+pub fn types(
+    program: &[u8],
+    n: usize,
+    header: Header,
+    constructors: &[[u16; 9]; 64],
+    functions: &[[u16; 9]; 32],
+) -> Checked
+    requires { ⌜ TypesAsk (now program) n header (now constructors) (now functions) ⌝ }
     ensures { λ r. ⌜ toldCheck r ≡ typesRight (programOf (payload (now (program .entry)))) ⌝ }
 {
-    let functions = header.functions as usize;
+    let m = header.functions as usize;
     let mut g: usize = 0;
-    while g < functions {
-        let found = types_of(program, n, header, heads, g);
+    while g < m {
+        let found = types_of(program, n, header, constructors, functions, g);
         if let Checked::Refused(reason) = found {
             return Checked::Refused(reason);
         }

@@ -27,6 +27,7 @@ use Rattle.rules.proofs.CheckLaws.{refused-blocks, refused-records, refused-dec
 use Rattle.program.specs.declared.Layout.{Layout}
 use Rattle.program.specs.Told.{OpenedRight}
 use Rattle.program.proofs.LayoutLaws.{types-count, constructors-count, functions-count}
+use Rattle.tables.specs.Tables.{ConstructorRows, FunctionRows}
 use Rattle.sizing.specs.Moves.{SizesAsk}
 use Rattle.verifier.specs.Examined.{Refuses, Declared, DeclaredRight, CodedRight, Accepted, ExaminedRight}
 
@@ -94,8 +95,9 @@ module _ {file : List ℕ} {layout : Layout} (d : Declared file (layout .length)
       types-refused r e = record { refuses = λ r′ w. refused-types file (d .opened .opened .verified) (d .opened .right) (d .declarations) (d .bounds) flows (told-refused types (e ∙ w)); accepts = λ w. never refl w }
 
       module _ (typed : t ≡ rule.Right) where
-        pub sizes-ask : SizesAsk file (layout .length) (layout .header) (layout .heads)
-        sizes-ask = record { program = d .opened; declarations = d .declarations; bounds = d .bounds; flow = flows; types = told-right types typed }
+        pub sizes-ask : {constructors functions : List (List ℕ)} → ConstructorRows (payload file) (layout .header .constructors) constructors → FunctionRows (payload file) (layout .header .functions) functions
+            → SizesAsk file (layout .length) (layout .header) (layout .heads) constructors functions
+        sizes-ask c f = record { program = d .opened; constructor = c; function = f; declarations = d .declarations; bounds = d .bounds; flow = flows; types = told-right types typed }
 
         pub sizes-told : {z : Checked} → toldCheck z ≡ sizesRight (programOf (payload file)) → CodedRight file z
         sizes-told says = record {

@@ -109,7 +109,7 @@ fn check_declarations(program: &[u8], n: usize) -> Contents
     }
 }
 
-// 7, 8, and 10 and 9: the code of all functions.
+// 7, 8, and 10 and 9: the code of all functions. The constructors and heads are read once for all of them.
 fn check_code(program: &[u8], layout: Layout) -> Checked
     requires { ⌜ Declared (now program) (layout .length) layout ⌝ }
     ensures { λ r. ⌜ CodedRight (now (program .entry)) r ⌝ }
@@ -117,13 +117,15 @@ fn check_code(program: &[u8], layout: Layout) -> Checked
     let n = layout.length;
     let header = layout.header;
     let heads = layout.heads;
-    let flow = typing::flows(program, n, header, &heads);
+    let constructors = tables::constructor_rows(program, n, header);
+    let functions = tables::function_rows(program, n, header, &heads);
+    let flow = typing::flows(program, n, header, &functions);
     if let Checked::Refused(reason) = flow {
         return Checked::Refused(reason);
     }
-    let types = typing::types(program, n, header, &heads);
+    let types = typing::types(program, n, header, &constructors, &functions);
     if let Checked::Refused(reason) = types {
         return Checked::Refused(reason);
     }
-    sizing::sizes(program, n, header, &heads)
+    sizing::sizes(program, n, header, &heads, &constructors, &functions)
 }

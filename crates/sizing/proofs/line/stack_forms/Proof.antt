@@ -6,7 +6,7 @@ use lib.ListN.{length, getD, take, length-set}
 use Rattle.rules.specs.Forms.{variableOnly}
 use Rattle.sizing.specs.Splits.{carried}
 use Rattle.sizing.specs.Forms.{Single, noForm}
-use Rattle.sizing.proofs.ListLaws.{stored-each}
+use Rattle.tables.proofs.TableLaws.{stored-each}
 use Rattle.sizing.proofs.PutLaws.{variable-wide}
 use Rattle.sizing.proofs.SplitLaws.{carried-wide}
 use borrow.Author.Needs.{needs}

@@ -12,9 +12,11 @@ use types.Run.{OneOf}
 use Rattle.rules.proofs.records.Instruction.{the-type}
 use Rattle.rules.specs.declared.records.Instruction.{Instruction}
 use Rattle.rules.specs.declared.records.Instruction.the-variants.{Load}
+use Rattle.rules.specs.Container.{payload}
 use Rattle.rules.specs.Program.{arity}
 use Rattle.rules.specs.Stacks.{slot}
 use Rattle.sizing.specs.Right.{shapeIn}
+use Rattle.sizing.specs.Routines.{tables, MakerAsks, MakerIs}
 use Rattle.sizing.specs.Walking.{functionIn}
 use Rattle.sizing.proofs.ReachLaws.{at-place, at-instruction, operand-there}
 use Rattle.sizing.proofs.StraightLaws.{Line, LineGoes, Making, line-own-asks, line-stack-asks, line-right, line-start, line-load-asks, line-load, line-end, line-making, line-from, line-arguments, line-large, line-uncovered, line-made}
@@ -23,10 +25,10 @@ use Rattle.sizing.proofs.line.straight_line.Statement.{statement}
 use Rattle.sizing.proofs.line.straight_line.Tie as tie
 
 abbrev Inv-loop : tie.InvT-loop
-Inv-loop program n heads g f start own stack₀ height₀ j₀ stack height j = Line program g start own stack₀ height₀ stack height j
+Inv-loop program n constructors functions alternatives g f start own stack₀ height₀ j₀ stack height j = Line program g start own stack₀ height₀ stack height j
 
 abbrev μ-loop : tie.MeasureT-loop
-μ-loop program n heads g f start own stack₀ height₀ j₀ stack height j = 257 - j
+μ-loop program n constructors functions alternatives g f start own stack₀ height₀ j₀ stack height j = 257 - j
 
 ---- What is known at a place of the code
 
@@ -50,6 +52,12 @@ is c =
     let s = c .before .before .before .before .before .before .before .before in
     at-instruction (s .pre .walking) (s .pre .there) (goes (c .before .before) .at) (s .args .f .base) (s .pre .routine .base) (c .instruction .result) (c .instruction .ensures)
 
+asks : (c : tie.After-instruction Inv-loop μ-loop) → let a = c .before .before .before .before .before .before .before .before .args in MakerAsks (a .program .now) (a .n) (tables (a .constructors .now) (a .functions .now) (a .alternatives .now)) (c .instruction .result)
+asks c = let p = c .before .before .before .before .before .before .before .before .pre in record { records = p .walking .records; operand = operand-there (p .walking) (p .there) (goes (c .before .before) .at) (c .instruction .result) (is c) }
+
+made : (c : tie.After-maker-of Inv-loop μ-loop) → MakerIs (payload (c .before .before .before .before .before .before .before .before .before .args .program .now)) (c .before .instruction .result) (c .maker-of .result)
+made c = c .maker-of .ensures _ _ (asks (c .before))
+
 loads : (c : tie.After-ins Inv-loop μ-loop) → let l = c .before .before .before .before .before .before .before in let s = l .before .before .before .before .before .before in
     slot (l .loop .j) (functionIn (s .args .program .now) (s .args .g) .code) ≡ some (Load (c .ins .given .0 .0))
 loads c = is (c .before .before .before .before .before) ∙ ap some (c .ins .given .1)
@@ -63,7 +71,7 @@ making : (c : tie.After-struct-known3 Inv-loop μ-loop) → let l = c .before .b
     Making (l .before .before .before .before .before .before .pre) (goes l) (c .before .before .before .before .instruction .result) (c .before .before .before .maker-of .result)
 making c =
     let l = c .before .before .before .before .before .before in
-    line-making (l .before .before .before .before .before .before .pre) (goes l) (c .before .before .before .before .instruction .result) (is (c .before .before .before .before)) (c .before .before .before .maker-of .result) (c .before .before .before .maker-of .ensures)
+    line-making (l .before .before .before .before .before .before .pre) (goes l) (c .before .before .before .before .instruction .result) (is (c .before .before .before .before)) (c .before .before .before .maker-of .result) (made (c .before .before .before))
     (not-false _ (c .before .if1 .left))
 
 low : (c : tie.After-struct-known3 Inv-loop μ-loop) → c .before .before .before .before .before .before .loop .height - c .before .before .before .maker-of .result .arity < 16
@@ -101,13 +109,13 @@ instruction-requires : tie.Need-instruction-requires Inv-loop μ-loop
 instruction-requires c κs = (c .before .before .before .before .before .before .before .pre .walking .records .opened, place (c .before) .3)
 
 maker-of-requires : tie.Need-maker-of-requires Inv-loop μ-loop
-maker-of-requires c κs = record { records = c .before .before .before .before .before .before .before .before .pre .walking .records; operand = operand-there (c .before .before .before .before .before .before .before .before .pre .walking) (c .before .before .before .before .before .before .before .before .pre .there) (goes (c .before .before) .at) (c .instruction .result) (is c) }
+maker-of-requires c κs = (_, _, asks c)
 
 enum-known-ins : tie.Need-enum-known-ins Inv-loop μ-loop
 enum-known-ins c = search needs
 
 returns : tie.Need-returns Inv-loop μ-loop
-returns c = let e = line-end (c .before .before .before .before .before .before .before .before .before .before .before .before .pre) (goes (c .before .before .before .before .before .before)) (c .before .before .before .before .instruction .result) (is (c .before .before .before .before)) (c .before .before .before .maker-of .result) (c .before .before .before .maker-of .ensures) (not-true _ (c .before .if1 .taken)) (not-load (c .before .before .before .before .instruction .result) (c .match .keys2)) in record { left = e .0; further = e .1 }
+returns c = let e = line-end (c .before .before .before .before .before .before .before .before .before .before .before .before .pre) (goes (c .before .before .before .before .before .before)) (c .before .before .before .before .instruction .result) (is (c .before .before .before .before)) (c .before .before .before .maker-of .result) (made (c .before .before .before)) (not-true _ (c .before .if1 .taken)) (not-load (c .before .before .before .before .instruction .result) (c .match .keys2)) in record { left = e .0; further = e .1 }
 
 wide-requires : tie.Need-wide-requires Inv-loop μ-loop
 wide-requires c κs = search needs
@@ -139,38 +147,38 @@ loop-again c = λ from r. rw (c .before .wide .ensures .0) (line-load (c .before
 sub-at : tie.Need-sub-at Inv-loop μ-loop
 sub-at c = making c .high
 
-mul-t25 : tie.Need-mul-t25 Inv-loop μ-loop
-mul-t25 c = omega (arith, low (c .before))
-
-array-copy-out-t39 : tie.Need-array-copy-out-t39 Inv-loop μ-loop
-array-copy-out-t39 c = omega (arith, low (c .before))
-
-add-t26 : tie.Need-add-t26 Inv-loop μ-loop
-add-t26 c = omega (arith, low (c .before .before))
-
 mul-t27 : tie.Need-mul-t27 Inv-loop μ-loop
-mul-t27 c = omega (arith, low (c .before .before))
+mul-t27 c = omega (arith, low (c .before))
 
-array-copy-out-t42 : tie.Need-array-copy-out-t42 Inv-loop μ-loop
-array-copy-out-t42 c = omega (arith, low (c .before .before))
+array-copy-out-t41 : tie.Need-array-copy-out-t41 Inv-loop μ-loop
+array-copy-out-t41 c = omega (arith, low (c .before))
 
-add-t43 : tie.Need-add-t43 Inv-loop μ-loop
-add-t43 c = omega (arith, low (c .before .before .before))
+add-t28 : tie.Need-add-t28 Inv-loop μ-loop
+add-t28 c = omega (arith, low (c .before .before))
 
-mul-t44 : tie.Need-mul-t44 Inv-loop μ-loop
-mul-t44 c = omega (arith, low (c .before .before .before))
+mul-t29 : tie.Need-mul-t29 Inv-loop μ-loop
+mul-t29 c = omega (arith, low (c .before .before))
 
-array-copy-out-t47 : tie.Need-array-copy-out-t47 Inv-loop μ-loop
-array-copy-out-t47 c = omega (arith, low (c .before .before .before))
+array-copy-out-t44 : tie.Need-array-copy-out-t44 Inv-loop μ-loop
+array-copy-out-t44 c = omega (arith, low (c .before .before))
 
-add-t48 : tie.Need-add-t48 Inv-loop μ-loop
-add-t48 c = omega (arith, low (c .before .before .before .before))
+add-t45 : tie.Need-add-t45 Inv-loop μ-loop
+add-t45 c = omega (arith, low (c .before .before .before))
 
-mul-t49 : tie.Need-mul-t49 Inv-loop μ-loop
-mul-t49 c = omega (arith, low (c .before .before .before .before))
+mul-t46 : tie.Need-mul-t46 Inv-loop μ-loop
+mul-t46 c = omega (arith, low (c .before .before .before))
 
-array-copy-out-t52 : tie.Need-array-copy-out-t52 Inv-loop μ-loop
-array-copy-out-t52 c = omega (arith, low (c .before .before .before .before))
+array-copy-out-t49 : tie.Need-array-copy-out-t49 Inv-loop μ-loop
+array-copy-out-t49 c = omega (arith, low (c .before .before .before))
+
+add-t50 : tie.Need-add-t50 Inv-loop μ-loop
+add-t50 c = omega (arith, low (c .before .before .before .before))
+
+mul-t51 : tie.Need-mul-t51 Inv-loop μ-loop
+mul-t51 c = omega (arith, low (c .before .before .before .before))
+
+array-copy-out-t54 : tie.Need-array-copy-out-t54 Inv-loop μ-loop
+array-copy-out-t54 c = omega (arith, low (c .before .before .before .before))
 
 into-bound-requires : tie.Need-into-bound-requires Inv-loop μ-loop
 into-bound-requires c κs = (making (c .before .before .before .before .before) .bound, line-arguments (c .before .before .before .before .before .before .before .before .before .before .before .before .before .before .before .before .before .pre) (goes (c .before .before .before .before .before .before .before .before .before .before .before)) (c .before .before .before .before .before .before .before .before .before .instruction .result) (is (c .before .before .before .before .before .before .before .before .before)) (c .before .before .before .before .before .before .before .before .maker-of .result) (making (c .before .before .before .before .before)))
@@ -203,7 +211,7 @@ loop-less-2 : tie.Need-loop-less-2 Inv-loop μ-loop
 loop-less-2 c = omega (arith, place (c .before .before .before .before .before .before .before .before .before .before .before .before .before .before .before .before) .2)
 
 loop-again-2 : tie.Need-loop-again-2 Inv-loop μ-loop
-loop-again-2 c = λ from r. let k = line-making (c .before .before .before .before .before .before .before .before .before .before .before .before .before .before .before .before .before .before .before .before .before .before .pre) (c .before .before .before .before .before .before .before .before .before .before .before .before .before .before .before .before .loop .inv from r) (c .before .before .before .before .before .before .before .before .before .before .before .before .before .before .instruction .result) (is (c .before .before .before .before .before .before .before .before .before .before .before .before .before .before)) (c .before .before .before .before .before .before .before .before .before .before .before .before .before .maker-of .result) (c .before .before .before .before .before .before .before .before .before .before .before .before .before .maker-of .ensures) (not-false _ (c .before .before .before .before .before .before .before .before .before .before .before .if1 .left)) in line-made (c .before .before .before .before .before .before .before .before .before .before .before .before .before .before .before .before .before .before .before .before .before .before .pre) (c .before .before .before .before .before .before .before .before .before .before .before .before .before .before .before .before .loop .inv from r) (c .before .before .before .before .before .before .before .before .before .before .before .before .before .before .instruction .result) (is (c .before .before .before .before .before .before .before .before .before .before .before .before .before .before)) (c .before .before .before .before .before .before .before .before .before .before .before .before .before .maker-of .result) k (c .before .before .before .before .into-bound .result) (c .before .before .before .before .into-bound .ensures) (c .before .before .if2 .left) (sym (c .before .covered-by .ensures) ∙ not-false _ (c .if3 .left))
+loop-again-2 c = λ from r. let k = line-making (c .before .before .before .before .before .before .before .before .before .before .before .before .before .before .before .before .before .before .before .before .before .before .pre) (c .before .before .before .before .before .before .before .before .before .before .before .before .before .before .before .before .loop .inv from r) (c .before .before .before .before .before .before .before .before .before .before .before .before .before .before .instruction .result) (is (c .before .before .before .before .before .before .before .before .before .before .before .before .before .before)) (c .before .before .before .before .before .before .before .before .before .before .before .before .before .maker-of .result) (made (c .before .before .before .before .before .before .before .before .before .before .before .before .before)) (not-false _ (c .before .before .before .before .before .before .before .before .before .before .before .if1 .left)) in line-made (c .before .before .before .before .before .before .before .before .before .before .before .before .before .before .before .before .before .before .before .before .before .before .pre) (c .before .before .before .before .before .before .before .before .before .before .before .before .before .before .before .before .loop .inv from r) (c .before .before .before .before .before .before .before .before .before .before .before .before .before .before .instruction .result) (is (c .before .before .before .before .before .before .before .before .before .before .before .before .before .before)) (c .before .before .before .before .before .before .before .before .before .before .before .before .before .maker-of .result) k (c .before .before .before .before .into-bound .result) (c .before .before .before .before .into-bound .ensures) (c .before .before .if2 .left) (sym (c .before .covered-by .ensures) ∙ not-false _ (c .if3 .left))
 
 pub straight-line-spec : {M : Type 1} → statement M
 straight-line-spec =
@@ -232,17 +240,17 @@ straight-line-spec =
     loop-less
     loop-again
     sub-at
-    mul-t25
-    array-copy-out-t39
-    add-t26
     mul-t27
-    array-copy-out-t42
-    add-t43
-    mul-t44
-    array-copy-out-t47
-    add-t48
-    mul-t49
-    array-copy-out-t52
+    array-copy-out-t41
+    add-t28
+    mul-t29
+    array-copy-out-t44
+    add-t45
+    mul-t46
+    array-copy-out-t49
+    add-t50
+    mul-t51
+    array-copy-out-t54
     into-bound-requires
     place-requires
     returns-2

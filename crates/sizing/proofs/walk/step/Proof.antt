@@ -9,6 +9,7 @@ use Rattle.rules.specs.declared.records.Instruction.{Instruction}
 use Rattle.rules.specs.declared.records.Instruction.the-variants.{Build, Call}
 use Rattle.rules.specs.Shapes.{shapeFrom}
 use Rattle.sizing.specs.declared.paths.Saved.{Saved}
+use Rattle.sizing.specs.Routines.{Tables, tables}
 use Rattle.sizing.specs.Walking.{functionIn}
 use Rattle.sizing.specs.Moves.{MoveAsks}
 use Rattle.sizing.proofs.FileLaws.{here}
@@ -32,7 +33,7 @@ place c =
     at-place (p .function .walking) (p .function .there) (p .fit (not-false _ (c .if1 .left)) .at) (c .before .before .before .args .f .base) (p .routine .base)
 
 -- the instruction that is read, where a state arrives
-move : (c : tie.After-instruction) → let s = c .before .before .before .before .before in MoveAsks (s .args .program .now) (s .args .n) (s .args .heads .now) (s .args .g) (s .args .i) (s .args .st) (c .instruction .result)
+move : (c : tie.After-instruction) → let s = c .before .before .before .before .before in MoveAsks (s .args .program .now) (s .args .n) (tables (s .args .constructors .now) (s .args .functions .now) (s .args .alternatives .now)) (s .args .g) (s .args .i) (s .args .st) (c .instruction .result)
 move c =
     let s = c .before .before .before .before .before in
     let p = s .pre in
@@ -44,7 +45,7 @@ move c =
       is = at-instruction (p .function .walking) (p .function .there) (p .fit v .at) (s .args .f .base) (p .routine .base) (c .instruction .result) (c .instruction .ensures);
     }
 
-as-is : {file : List ℕ} {n : ℕ} {heads : List ℕ} {g i : ℕ} {st : Saved} {x y : Instruction} → MoveAsks file n heads g i st x → x ≡ y → MoveAsks file n heads g i st y
+as-is : {file : List ℕ} {n : ℕ} {ts : Tables} {g i : ℕ} {st : Saved} {x y : Instruction} → MoveAsks file n ts g i st x → x ≡ y → MoveAsks file n ts g i st y
 as-is m e = rw e at m
 
 add-stay : tie.Need-add-stay
@@ -80,14 +81,14 @@ sub-load-variable c = omega (arith, move-load-asks (as-is (move (c .before .befo
 load-variable-requires : tie.Need-load-variable-requires
 load-variable-requires c κs = let q = move-load-asks (as-is (move (c .before .before .before .before)) (c .before .before .ins .given .1)) in (q .2, omega (arith, q .0, q .1, c .wide .ensures .0), (move (c .before .before .before .before)) .fit .right .long)
 
-add-t22 : tie.Need-add-t22
-add-t22 c = omega (arith, short (c .before .before .before .before .before .before .before .before .before))
+add-t24 : tie.Need-add-t24
+add-t24 c = omega (arith, short (c .before .before .before .before .before .before .before .before .before))
 
 unvisited-requires : tie.Need-unvisited-requires
 unvisited-requires c κs = search needs
 
-add-t24 : tie.Need-add-t24
-add-t24 c = omega (arith, short (c .before .before .before .before .before .before .before .before .before .before))
+add-t26 : tie.Need-add-t26
+add-t26 c = omega (arith, short (c .before .before .before .before .before .before .before .before .before .before))
 
 enum-told : tie.Need-enum-told
 enum-told c = search needs
@@ -105,7 +106,7 @@ enum-known-ins-2 : tie.Need-enum-known-ins-2
 enum-known-ins-2 c = search needs
 
 branch-requires : tie.Need-branch-requires
-branch-requires c κs = as-is (move (c .before .before .before)) (c .before .ins2 .given .1)
+branch-requires c κs = (_, _, _, _, as-is (move (c .before .before .before)) (c .before .ins2 .given .1))
 
 enum-told-3 : tie.Need-enum-told-3
 enum-told-3 c = search needs
@@ -135,7 +136,7 @@ returns-4 : tie.Need-returns-4
 returns-4 c = search needs
 
 returns-5 : tie.Need-returns-5
-returns-5 c = search needs
+returns-5 c = c .branch .ensures _ _ _ _ (as-is (move (c .before .before .before .before)) (c .before .before .ins2 .given .1))
 
 returns-6 : tie.Need-returns-6
 unfolding shapeFrom
@@ -160,9 +161,9 @@ step-spec =
     wide-requires
     sub-load-variable
     load-variable-requires
-    add-t22
-    unvisited-requires
     add-t24
+    unvisited-requires
+    add-t26
     enum-told
     line-move-requires
     enum-told-2

@@ -3,28 +3,26 @@ use Prim.Native.Nat.{_-_, _≤_}
 use native.Mathlib.Omega.{arith}
 use borrow.Author.Needs.{needs}
 use Rattle.rules.specs.Container.{payload}
+use Rattle.rules.specs.Records.{headOffset}
 use Rattle.typing.proofs.CodeLaws.{code-there, code-short, code-here}
 use Rattle.typing.proofs.FlowLaws.{Flowing, flow-start, flow-wrong, flow-next, flow-end, flow-room}
 use Rattle.typing.proofs.flow.flow_of.Statement.{statement}
 use Rattle.typing.proofs.flow.flow_of.Tie as tie
 
 abbrev Inv-loop : tie.InvT-loop
-Inv-loop program n g at code last waiting₀ k₀ waiting k = Flowing (payload program) n at g code k waiting
+Inv-loop program n g code last waiting₀ k₀ waiting k = Flowing (payload program) n (headOffset (payload program) g) g code k waiting
 
 abbrev μ-loop : tie.MeasureT-loop
-μ-loop program n g at code last waiting₀ k₀ waiting k = code .last - k
-
-head-requires : tie.Need-head-requires Inv-loop μ-loop
-head-requires c κs = (c .before .pre .0, omega (arith, c .before .pre .0 .long, c .before .pre .1 .head))
+μ-loop program n g code last waiting₀ k₀ waiting k = code .last - k
 
 code-of-requires : tie.Need-code-of-requires Inv-loop μ-loop
-code-of-requires c κs = omega (arith, c .before .before .pre .0 .long, c .before .before .pre .0 .small, c .before .before .pre .1 .head)
+code-of-requires c κs = search needs
 
 array-write-waiting : tie.Need-array-write-waiting Inv-loop μ-loop
 array-write-waiting c = search needs
 
 loop-holds : tie.Need-loop-holds Inv-loop μ-loop
-loop-holds c = flow-start _ _ _ _ _ (code-there _ _ _ (c .before .before .before .pre .0) (c .before .before .before .pre .1) (c .before .head .ensures) (c .code-of .ensures))
+loop-holds c = flow-start _ _ _ _ _ (code-there _ (c .before .before .pre .0) (c .before .before .pre .1) (c .code-of .ensures))
 
 add-i : tie.Need-add-i Inv-loop μ-loop
 add-i c = omega (arith, code-short (c .before .loop .inv .code))
@@ -36,7 +34,7 @@ add-instruction : tie.Need-add-instruction Inv-loop μ-loop
 add-instruction c = omega (arith, code-here (c .before .before .loop .inv .code) (c .before .before .loop .k) (c .before .loop-test .taken), c .before .before .loop .inv .code .small)
 
 instruction-requires : tie.Need-instruction-requires Inv-loop μ-loop
-instruction-requires c κs = (c .before .before .before .before .before .before .pre .0, code-here (c .before .before .loop .inv .code) (c .before .before .loop .k) (c .before .loop-test .taken))
+instruction-requires c κs = (c .before .before .before .before .before .pre .0, code-here (c .before .before .loop .inv .code) (c .before .before .loop .k) (c .before .loop-test .taken))
 
 array-read-flow-step : tie.Need-array-read-flow-step Inv-loop μ-loop
 array-read-flow-step c = omega (arith, code-short (c .before .before .before .loop .inv .code), c .before .before .before .loop .inv .walking .room)
@@ -87,7 +85,6 @@ flow-of-spec =
     (tie.spec
     Inv-loop
     μ-loop
-    head-requires
     code-of-requires
     array-write-waiting
     loop-holds

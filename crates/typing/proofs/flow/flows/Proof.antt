@@ -5,54 +5,55 @@ use native.Mathlib.Omega.{arith}
 use borrow.Author.Needs.{needs}
 use Rattle.rules.specs.Container.{payload}
 use Rattle.rules.specs.Flow.{flowOf, flowRight}
-use Rattle.program.proofs.LayoutLaws.{atFunction, functions-few, function-placed, functions-pass, function-here}
+use Rattle.program.proofs.LayoutLaws.{atFunction, functions-few, functions-pass}
+use Rattle.tables.proofs.TableLaws.{row-there}
 use Rattle.program.proofs.PassLaws.{Passing, pass-first, pass-stop, pass-next, pass-end, told-as}
 use Rattle.typing.proofs.flow.flows.Statement.{statement}
 use Rattle.typing.proofs.flow.flows.Tie as tie
 
 abbrev Inv-loop : tie.InvT-loop
-Inv-loop program n heads functions g₀ g = Passing (atFunction flowOf (payload program)) functions g
+Inv-loop program n functions m g₀ g = Passing (atFunction flowOf (payload program)) m g
 
 abbrev μ-loop : tie.MeasureT-loop
-μ-loop program n heads functions g₀ g = functions - g
+μ-loop program n functions m g₀ g = m - g
 
-cast-functions : tie.Need-cast-functions Inv-loop μ-loop
-cast-functions c = search needs
+cast-m : tie.Need-cast-m Inv-loop μ-loop
+cast-m c = search needs
 
 loop-holds : tie.Need-loop-holds Inv-loop μ-loop
 loop-holds c = pass-first
 
 mul-flow-of : tie.Need-mul-flow-of Inv-loop μ-loop
-mul-flow-of c = omega (arith, functions-few (c .before .before .before .before .pre))
+mul-flow-of c = omega (arith, functions-few (c .before .before .before .before .pre .0 .1))
 
 element-copy-out-flow-of : tie.Need-element-copy-out-flow-of Inv-loop μ-loop
-element-copy-out-flow-of c = omega (arith, functions-few (c .before .before .before .before .pre))
+element-copy-out-flow-of c = omega (arith, functions-few (c .before .before .before .before .pre .0 .1))
 
 flow-of-requires : tie.Need-flow-of-requires Inv-loop μ-loop
-flow-of-requires c κs = (c .before .before .before .before .before .pre .opened, function-placed (c .before .before .before .before .before .pre) (c .before .before .loop .g) (c .before .loop-test .taken))
+flow-of-requires c κs = (c .before .before .before .before .before .pre .0 .1 .opened, row-there (c .before .before .before .before .before .pre .0 .1) (c .before .before .before .before .before .pre .1) (c .before .before .loop .g) (c .before .loop-test .taken))
 
 enum-known-found : tie.Need-enum-known-found Inv-loop μ-loop
 enum-known-found c = search needs
 
 returns : tie.Need-returns Inv-loop μ-loop
 unfolding flowRight
-returns c = pass-stop (c .before .before .before .before .before .before .loop .inv) (c .before .before .before .before .before .loop-test .taken) (function-here (c .before .before .before .before .before .before .before .before .before .pre) flowOf (c .before .before .before .before .before .before .loop .g) (c .before .before .before .before .before .loop-test .taken) (told-as (c .before .before .before .flow-of .ensures) (c .before .found .given .1))) ∙ sym (functions-pass (c .before .before .before .before .before .before .before .before .before .pre) flowOf)
+returns c = pass-stop (c .before .before .before .before .before .before .loop .inv) (c .before .before .before .before .before .loop-test .taken) (told-as (c .before .before .before .flow-of .ensures) (c .before .found .given .1)) ∙ sym (functions-pass (c .before .before .before .before .before .before .before .before .before .pre .0 .1) flowOf)
 
 enum-told : tie.Need-enum-told Inv-loop μ-loop
 enum-told c = search needs
 
 add-g : tie.Need-add-g Inv-loop μ-loop
-add-g c = omega (arith, functions-few (c .before .before .before .before .before .before .before .before .pre))
+add-g c = omega (arith, functions-few (c .before .before .before .before .before .before .before .before .pre .0 .1))
 
 loop-less : tie.Need-loop-less Inv-loop μ-loop
 loop-less c = omega arith
 
 loop-again : tie.Need-loop-again Inv-loop μ-loop
-loop-again c = pass-next (c .before .before .before .before .before .loop .inv) (c .before .before .before .before .loop-test .taken) (function-here (c .before .before .before .before .before .before .before .before .pre) flowOf (c .before .before .before .before .before .loop .g) (c .before .before .before .before .loop-test .taken) (told-as (c .before .before .flow-of .ensures) (c .enum-told .given .1)))
+loop-again c = pass-next (c .before .before .before .before .before .loop .inv) (c .before .before .before .before .loop-test .taken) (told-as (c .before .before .flow-of .ensures) (c .enum-told .given .1))
 
 returns-2 : tie.Need-returns-2 Inv-loop μ-loop
 unfolding flowRight
-returns-2 c = pass-end (c .before .loop .inv) (c .loop-test .left) ∙ sym (functions-pass (c .before .before .before .before .pre) flowOf)
+returns-2 c = pass-end (c .before .loop .inv) (c .loop-test .left) ∙ sym (functions-pass (c .before .before .before .before .pre .0 .1) flowOf)
 
 pub flows-spec : {M : Type 1} → statement M
 flows-spec =
@@ -60,7 +61,7 @@ flows-spec =
     (tie.spec
     Inv-loop
     μ-loop
-    cast-functions
+    cast-m
     loop-holds
     mul-flow-of
     element-copy-out-flow-of

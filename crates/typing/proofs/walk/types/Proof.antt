@@ -6,48 +6,48 @@ use borrow.Author.Needs.{needs}
 use Rattle.rules.specs.Container.{payload}
 use Rattle.rules.specs.Records.{programOf}
 use Rattle.rules.specs.Types.{typesOf, typesRight}
-use Rattle.program.proofs.LayoutLaws.{atFunction, functions-few, functions-pass, function-here}
+use Rattle.program.proofs.LayoutLaws.{atFunction, functions-few, functions-pass}
 use Rattle.program.proofs.PassLaws.{Passing, pass-first, pass-stop, pass-next, pass-end, told-as}
 use Rattle.typing.proofs.walk.types.Statement.{statement}
 use Rattle.typing.proofs.walk.types.Tie as tie
 
 abbrev Inv-loop : tie.InvT-loop
-Inv-loop program n header heads functions g₀ g = Passing (atFunction (typesOf (programOf (payload program))) (payload program)) functions g
+Inv-loop program n header constructors functions m g₀ g = Passing (atFunction (typesOf (programOf (payload program))) (payload program)) m g
 
 abbrev μ-loop : tie.MeasureT-loop
-μ-loop program n header heads functions g₀ g = functions - g
+μ-loop program n header constructors functions m g₀ g = m - g
 
-cast-functions : tie.Need-cast-functions Inv-loop μ-loop
-cast-functions c = search needs
+cast-m : tie.Need-cast-m Inv-loop μ-loop
+cast-m c = search needs
 
 loop-holds : tie.Need-loop-holds Inv-loop μ-loop
 loop-holds c = pass-first
 
 types-of-requires : tie.Need-types-of-requires Inv-loop μ-loop
-types-of-requires c κs = (c .before .before .before .before .pre .0, c .before .before .before .before .pre .1, c .loop-test .taken)
+types-of-requires c κs = let p = c .before .before .before .before .pre in (record { program = p .program; bytes = λ k. omega (arith, c .before .before .before .shared-slice-known .given k); constructor = p .constructor; function = p .function }, p .flow, c .loop-test .taken)
 
 enum-known-found : tie.Need-enum-known-found Inv-loop μ-loop
 enum-known-found c = search needs
 
 returns : tie.Need-returns Inv-loop μ-loop
 unfolding typesRight
-returns c = pass-stop (c .before .before .before .before .before .loop .inv) (c .before .before .before .before .loop-test .taken) (function-here (c .before .before .before .before .before .before .before .before .pre .0) (typesOf (programOf _)) (c .before .before .before .before .before .loop .g) (c .before .before .before .before .loop-test .taken) (told-as (c .before .before .before .types-of .ensures) (c .before .found .given .1))) ∙ sym (functions-pass (c .before .before .before .before .before .before .before .before .pre .0) (typesOf (programOf _)))
+returns c = pass-stop (c .before .before .before .before .before .loop .inv) (c .before .before .before .before .loop-test .taken) (told-as (c .before .before .before .types-of .ensures) (c .before .found .given .1)) ∙ sym (functions-pass (c .before .before .before .before .before .before .before .before .pre .program .1) (typesOf (programOf _)))
 
 enum-told : tie.Need-enum-told Inv-loop μ-loop
 enum-told c = search needs
 
 add-g : tie.Need-add-g Inv-loop μ-loop
-add-g c = omega (arith, functions-few (c .before .before .before .before .before .before .before .pre .0))
+add-g c = omega (arith, functions-few (c .before .before .before .before .before .before .before .pre .program .1))
 
 loop-less : tie.Need-loop-less Inv-loop μ-loop
 loop-less c = omega arith
 
 loop-again : tie.Need-loop-again Inv-loop μ-loop
-loop-again c = pass-next (c .before .before .before .before .loop .inv) (c .before .before .before .loop-test .taken) (function-here (c .before .before .before .before .before .before .before .pre .0) (typesOf (programOf _)) (c .before .before .before .before .loop .g) (c .before .before .before .loop-test .taken) (told-as (c .before .before .types-of .ensures) (c .enum-told .given .1)))
+loop-again c = pass-next (c .before .before .before .before .loop .inv) (c .before .before .before .loop-test .taken) (told-as (c .before .before .types-of .ensures) (c .enum-told .given .1))
 
 returns-2 : tie.Need-returns-2 Inv-loop μ-loop
 unfolding typesRight
-returns-2 c = pass-end (c .before .loop .inv) (c .loop-test .left) ∙ sym (functions-pass (c .before .before .before .before .pre .0) (typesOf (programOf _)))
+returns-2 c = pass-end (c .before .loop .inv) (c .loop-test .left) ∙ sym (functions-pass (c .before .before .before .before .pre .program .1) (typesOf (programOf _)))
 
 pub types-spec : {M : Type 1} → statement M
 types-spec =
@@ -55,7 +55,7 @@ types-spec =
     (tie.spec
     Inv-loop
     μ-loop
-    cast-functions
+    cast-m
     loop-holds
     types-of-requires
     enum-known-found

@@ -3,43 +3,44 @@ use Prim.Native.Nat.{_-_, _≤_}
 use native.Mathlib.Omega.{arith}
 use borrow.Author.Needs.{needs}
 use Rattle.rules.specs.Container.{payload}
-use Rattle.program.proofs.LayoutLaws.{functions-few, function-placed}
+use Rattle.rules.specs.Records.{headOffset}
+use Rattle.program.proofs.LayoutLaws.{functions-few}
 use Rattle.typing.proofs.CodeLaws.{code-there, code-short, code-here}
-use Rattle.typing.proofs.SignatureLaws.{head-here, flow-passed, own-result, own-few, own-start}
+use Rattle.typing.proofs.SignatureLaws.{function-small, function-there, function-signature, flow-passed, own-result, own-start}
 use Rattle.typing.proofs.StackLaws.{empty-height}
 use Rattle.typing.proofs.TypeWalk.{Typing, typing-start, here-sound, here-aims, typing-wrong, typing-room, typing-next, typing-end}
 use Rattle.typing.proofs.walk.types_of.Statement.{statement}
 use Rattle.typing.proofs.walk.types_of.Tie as tie
 
 abbrev Inv-loop : tie.InvT-loop
-Inv-loop program n header heads g at signature code last waiting₀ k₀ waiting k = Typing (payload program) n at g code k waiting
+Inv-loop program n header constructors functions g signature code last waiting₀ k₀ waiting k = Typing (payload program) n (headOffset (payload program) g) g code k waiting
 
 abbrev μ-loop : tie.MeasureT-loop
-μ-loop program n header heads g at signature code last waiting₀ k₀ waiting k = code .last - k
+μ-loop program n header constructors functions g signature code last waiting₀ k₀ waiting k = code .last - k
 
-mul-at : tie.Need-mul-at Inv-loop μ-loop
-mul-at c = omega (arith, functions-few (c .before .pre .0), c .before .pre .2)
+mul-row : tie.Need-mul-row Inv-loop μ-loop
+mul-row c = omega (arith, functions-few (c .before .pre .0 .program .1), c .before .pre .2)
 
-element-copy-out-at : tie.Need-element-copy-out-at Inv-loop μ-loop
-element-copy-out-at c = omega (arith, functions-few (c .before .pre .0), c .before .pre .2)
+element-copy-out-row : tie.Need-element-copy-out-row Inv-loop μ-loop
+element-copy-out-row c = omega (arith, functions-few (c .before .pre .0 .program .1), c .before .pre .2)
 
-head-requires : tie.Need-head-requires Inv-loop μ-loop
-head-requires c κs = (c .before .before .pre .0 .opened, head-here (c .before .before .pre .0) (c .before .before .args .g) (c .before .before .pre .2))
+signature-in-requires : tie.Need-signature-in-requires Inv-loop μ-loop
+signature-in-requires c κs = function-small (c .before .before .pre .0) (c .before .before .args .g) (c .before .before .pre .2)
 
 code-of-requires : tie.Need-code-of-requires Inv-loop μ-loop
-code-of-requires c κs = omega (arith, c .before .before .before .before .pre .0 .opened .small, head-here (c .before .before .before .before .pre .0) (c .before .before .before .before .args .g) (c .before .before .before .before .pre .2))
+code-of-requires c κs = search needs
 
 empty-requires : tie.Need-empty-requires Inv-loop μ-loop
 empty-requires c κs = search needs
 
 push-arguments-requires : tie.Need-push-arguments-requires Inv-loop μ-loop
-push-arguments-requires c κs = let few = own-few _ _ (c .before .before .before .head .ensures) (function-placed (c .before .before .before .before .before .before .pre .0) (c .before .before .before .before .before .before .args .g) (c .before .before .before .before .before .before .pre .2)) in (few, omega (arith, empty-height (c .empty .ensures)))
+push-arguments-requires c κs = let few = function-signature (c .before .before .before .before .before .pre .0) (c .before .before .before .before .before .args .g) (c .before .before .before .before .before .pre .2) (c .before .before .signature-in .ensures) .1 in (few, omega (arith, empty-height (c .empty .ensures)))
 
 array-set-from-waiting : tie.Need-array-set-from-waiting Inv-loop μ-loop
 array-set-from-waiting c = omega arith
 
 loop-holds : tie.Need-loop-holds Inv-loop μ-loop
-loop-holds c = typing-start _ _ _ _ _ (code-there _ _ _ (c .before .before .before .before .before .before .before .pre .0 .opened) (function-placed (c .before .before .before .before .before .before .before .pre .0) (c .before .before .before .before .before .before .before .args .g) (c .before .before .before .before .before .before .before .pre .2)) (c .before .before .before .before .head .ensures) (c .before .before .code-of .ensures)) (flow-passed (c .before .before .before .before .before .before .before .pre .0) (c .before .before .before .before .before .before .before .pre .1) (c .before .before .before .before .before .before .before .args .g) (c .before .before .before .before .before .before .before .pre .2) .1) (c .before .empty .result) (c .push-arguments .result) (own-start _ _ (c .before .before .before .before .head .ensures) (c .before .empty .ensures) (c .push-arguments .ensures))
+loop-holds c = typing-start _ _ _ _ _ (code-there _ (c .before .before .before .before .before .before .pre .0 .program .1 .opened) (function-there (c .before .before .before .before .before .before .pre .0) (c .before .before .before .before .before .before .args .g) (c .before .before .before .before .before .before .pre .2)) (c .before .before .code-of .ensures)) (flow-passed (c .before .before .before .before .before .before .pre .0 .program .1) (c .before .before .before .before .before .before .pre .1) (c .before .before .before .before .before .before .args .g) (c .before .before .before .before .before .before .pre .2) .1) (c .before .empty .result) (c .push-arguments .result) (own-start _ _ (function-signature (c .before .before .before .before .before .before .pre .0) (c .before .before .before .before .before .before .args .g) (c .before .before .before .before .before .before .pre .2) (c .before .before .before .signature-in .ensures) .0) (c .before .empty .ensures) (c .push-arguments .ensures))
 
 add-i : tie.Need-add-i Inv-loop μ-loop
 add-i c = omega (arith, code-short (c .before .loop .inv .code))
@@ -51,7 +52,7 @@ add-instruction : tie.Need-add-instruction Inv-loop μ-loop
 add-instruction c = omega (arith, code-here (c .before .before .loop .inv .code) (c .before .before .loop .k) (c .before .loop-test .taken), c .before .before .loop .inv .code .small)
 
 instruction-requires : tie.Need-instruction-requires Inv-loop μ-loop
-instruction-requires c κs = (c .before .before .before .before .before .before .before .before .before .before .pre .0 .opened, code-here (c .before .before .loop .inv .code) (c .before .before .loop .k) (c .before .loop-test .taken))
+instruction-requires c κs = (c .before .before .before .before .before .before .before .before .before .pre .0 .program .1 .opened, code-here (c .before .before .loop .inv .code) (c .before .before .loop .k) (c .before .loop-test .taken))
 
 mul-here : tie.Need-mul-here Inv-loop μ-loop
 mul-here c = omega (arith, code-short (c .before .before .before .loop .inv .code))
@@ -60,16 +61,16 @@ array-copy-out-here : tie.Need-array-copy-out-here Inv-loop μ-loop
 array-copy-out-here c = omega (arith, code-short (c .before .before .before .loop .inv .code))
 
 type-step-requires : tie.Need-type-step-requires Inv-loop μ-loop
-type-step-requires c κs = (c .before .before .before .before .before .before .before .before .before .before .before .before .pre .0, here-sound _ _ _ _ _ (c .before .before .before .before .loop .inv) (c .before .before .before .loop-test .taken), omega (arith, code-short (c .before .before .before .before .loop .inv .code)), here-aims _ _ _ _ _ (c .before .before .before .before .loop .inv) (c .before .before .before .loop-test .taken) (c .before .instruction .ensures))
+type-step-requires c κs = ((_, _, c .before .before .before .before .before .before .before .before .before .before .before .pre .0), here-sound _ _ _ _ _ (c .before .before .before .before .loop .inv) (c .before .before .before .loop-test .taken), omega (arith, code-short (c .before .before .before .before .loop .inv .code)), here-aims _ _ _ _ _ (c .before .before .before .before .loop .inv) (c .before .before .before .loop-test .taken) (c .before .instruction .ensures))
 
 returns : tie.Need-returns Inv-loop μ-loop
-returns c = typing-wrong _ _ _ _ _ (c .before .before .before .before .before .before .loop .inv) (c .before .before .before .before .before .loop-test .taken) (c .before .before .before .instruction .ensures) (c .before .type-step .ensures _ _ (own-result _ _ (c .before .before .before .before .before .before .before .before .before .before .before .head .ensures))) (c .if1 .taken)
+returns c = typing-wrong _ _ _ _ _ (c .before .before .before .before .before .before .loop .inv) (c .before .before .before .before .before .loop-test .taken) (c .before .before .before .instruction .ensures) (c .before .type-step .ensures _ _ (c .before .before .before .before .before .before .before .before .before .before .before .before .before .pre .0) _ _ (own-result _ _ (function-signature (c .before .before .before .before .before .before .before .before .before .before .before .before .before .pre .0) (c .before .before .before .before .before .before .before .before .before .before .before .before .before .args .g) (c .before .before .before .before .before .before .before .before .before .before .before .before .before .pre .2) (c .before .before .before .before .before .before .before .before .before .before .signature-in .ensures) .0))) (c .if1 .taken)
 
 -- both slots that are stored to are those of instructions
 slots : (c : tie.Else1 Inv-loop μ-loop) → (c .before .type-step .result .on ≤ 256) × (c .before .type-step .result .to ≤ 256)
 slots c =
     let r = typing-room _ _ _ _ _ (c .before .before .before .before .before .before .loop .inv) (c .before .before .before .before .before .loop-test .taken) (c .before .before .before .instruction .ensures)
-    (c .before .type-step .ensures _ _ (own-result _ _ (c .before .before .before .before .before .before .before .before .before .before .before .head .ensures))) (c .if1 .left) in
+    (c .before .type-step .ensures _ _ (c .before .before .before .before .before .before .before .before .before .before .before .before .before .pre .0) _ _ (own-result _ _ (function-signature (c .before .before .before .before .before .before .before .before .before .before .before .before .before .pre .0) (c .before .before .before .before .before .before .before .before .before .before .before .before .before .args .g) (c .before .before .before .before .before .before .before .before .before .before .before .before .before .pre .2) (c .before .before .before .before .before .before .before .before .before .before .signature-in .ensures) .0))) (c .if1 .left) in
     (omega (arith, r .0, code-short (c .before .before .before .before .before .before .loop .inv .code)), omega (arith, r .1, code-short (c .before .before .before .before .before .before .loop .inv .code)))
 
 mul-waiting : tie.Need-mul-waiting Inv-loop μ-loop
@@ -91,7 +92,7 @@ loop-less : tie.Need-loop-less Inv-loop μ-loop
 loop-less c = omega arith
 
 loop-again : tie.Need-loop-again Inv-loop μ-loop
-loop-again c = typing-next _ _ _ _ _ (c .before .before .before .before .before .before .before .loop .inv) (c .before .before .before .before .before .before .loop-test .taken) (c .before .before .before .before .instruction .ensures) (c .before .before .type-step .ensures _ _ (own-result _ _ (c .before .before .before .before .before .before .before .before .before .before .before .before .head .ensures))) (c .before .if1 .left)
+loop-again c = typing-next _ _ _ _ _ (c .before .before .before .before .before .before .before .loop .inv) (c .before .before .before .before .before .before .loop-test .taken) (c .before .before .before .before .instruction .ensures) (c .before .before .type-step .ensures _ _ (c .before .before .before .before .before .before .before .before .before .before .before .before .before .before .pre .0) _ _ (own-result _ _ (function-signature (c .before .before .before .before .before .before .before .before .before .before .before .before .before .before .pre .0) (c .before .before .before .before .before .before .before .before .before .before .before .before .before .before .args .g) (c .before .before .before .before .before .before .before .before .before .before .before .before .before .before .pre .2) (c .before .before .before .before .before .before .before .before .before .before .before .signature-in .ensures) .0))) (c .before .if1 .left)
 
 returns-2 : tie.Need-returns-2 Inv-loop μ-loop
 returns-2 c = typing-end _ _ _ _ _ (c .before .loop .inv) (c .loop-test .left)
@@ -102,9 +103,9 @@ types-of-spec =
     (tie.spec
     Inv-loop
     μ-loop
-    mul-at
-    element-copy-out-at
-    head-requires
+    mul-row
+    element-copy-out-row
+    signature-in-requires
     code-of-requires
     empty-requires
     push-arguments-requires

@@ -1,0 +1,112 @@
+-- A table that is filled place by place.
+use mathlib.Core.Path.{_≡_, refl, ap, _∙_}
+use mathlib.Core.List.{List, []}
+use mathlib.Core.Bool.{Bool, true, false}
+use Prim.Native.Nat.{ℕ, zero, suc, _+_, _*_, _/_, _%_, _≤_, _<_}
+use native.Mathlib.Omega.{arith}
+use lib.ListN.{length, getD, set, length-set, List·getD-eq-default}
+use lib.Seq.{getD-set-same, getD-set-other}
+use lib.Dec.{eqb, ltb}
+use borrow.Author.Tests.{eqb-true, eqb-false, ltb-true, ltb-false}
+use Rattle.rules.specs.declared.records.AlternativeRecord.{AlternativeRecord}
+use Rattle.rules.specs.declared.records.HeadRecord.{HeadRecord}
+use Rattle.rules.specs.declared.records.Header.{Header}
+use Rattle.rules.specs.Base.{byteAt}
+use Rattle.rules.specs.Container.{payload}
+use Rattle.rules.specs.Records.{declarationAt, alternativeAt, headAt, alternativeOffset, headOffset}
+use Rattle.rules.specs.Opened.{Opened, OpenedProgram}
+use Rattle.rules.proofs.ContainerLaws.{opened-byte}
+use Rattle.tables.specs.Tables.{nameRow, functionRow, alternativeRow, FunctionRows, AlternativeRows, RowThere}
+use Rattle.program.proofs.LayoutLaws.{head-placed, function-placed}
+
+-- what holds of each of the first i entries, after a store at i
+pub stored-each : {A : Type 0} (d : A) (P : ℕ → A → Type 0) (r : List A) (i : ℕ) (x : A) → i < length r → ((j : ℕ) → j < i → P j (getD r j d)) → P i x → (j : ℕ) → j < i + 1 → P j (getD (set r i x) j d)
+stored-each d P r i x h q p j l = go (eqb j i) refl
+  where
+    go : (t : Bool) → eqb j i ≡ t → P j (getD (set r i x) j d)
+    go true e = rw (eqb-true j i e, getD-set-same r i x d h) p
+    go false e = rw (getD-set-other r i j x d (eqb-false j i e)) (q j (omega (arith, eqb-false j i e)))
+
+-- the row of a function as it is read
+pub function-row : (bytes : List ℕ) {at w : ℕ} {h : HeadRecord} (g : ℕ) → at ≡ headOffset bytes g → h ≡ headAt bytes at → w ≡ h .alternatives
+    → nameRow (h .declaration) (h .alternatives) (at + 10 + 6 * w) (h .instructions) ≡ functionRow (headOffset bytes g) (headAt bytes (headOffset bytes g))
+function-row bytes g p e q = rw (q, e, p)
+
+---- The alternatives, of which four places stand for a function's
+
+-- what is at a place, where the function has so many alternatives
+abbrev pub AlternativeIn : List ℕ → ℕ → List ℕ → Type 0
+AlternativeIn bytes i row = i % 4 < byteAt bytes (headOffset bytes (i / 4) + 6) → row ≡ alternativeRow (alternativeAt bytes (alternativeOffset (headOffset bytes (i / 4)) (i % 4)))
+
+-- the first i places of 128
+pub record Alternatives (bytes : List ℕ) (i : ℕ) (rows : List (List ℕ)) : Type 0 where
+  pub long : length rows ≡ 128
+  pub there : (j : ℕ) → j < i → AlternativeIn bytes j (getD rows j [])
+
+pub alternatives-start : (bytes : List ℕ) {rows : List (List ℕ)} → length rows ≡ 128 → Alternatives bytes 0 rows
+alternatives-start bytes e = record { long = e; there = λ j l. absurd (omega arith) }
+
+module _ {bytes : List ℕ} {i : ℕ} {rows : List (List ℕ)} (a : Alternatives bytes i rows) where
+  pub alternatives-stored : {row : List ℕ} → i < 128 → AlternativeIn bytes i row → Alternatives bytes (i + 1) (set rows i row)
+  alternatives-stored {row} l h = record { long = length-set rows i row ∙ a .long; there = stored-each [] (AlternativeIn bytes) rows i row (omega (arith, a .long)) (a .there) h }
+
+  pub alternatives-none : byteAt bytes (headOffset bytes (i / 4) + 6) ≤ i % 4 → Alternatives bytes (i + 1) rows
+  alternatives-none n = record { long = a .long; there = λ j l. go j l (eqb j i) refl }
+    where
+      go : (j : ℕ) → j < i + 1 → (t : Bool) → eqb j i ≡ t → AlternativeIn bytes j (getD rows j [])
+      go j l true e = rw (eqb-true j i e) (λ h. absurd (omega arith))
+      go j l false e = a .there j (omega (arith, eqb-false j i e))
+
+  pub alternatives-end : (m : ℕ) → 4 * m ≤ i → ((g : ℕ) → g < m → byteAt bytes (headOffset bytes g + 6) ≤ 4) → AlternativeRows bytes m rows
+  alternatives-end m l few = record {
+    row = λ g k h t.
+        let q : (4 * g + k) / 4 ≡ g = omega (arith, few g h) in
+        let r : (4 * g + k) % 4 ≡ k = omega (arith, few g h) in
+        rw (q, r) at (a .there (4 * g + k) (omega (arith, few g h))) t;
+  }
+
+-- a function by its row and by its head
+module _ {file : List ℕ} {n : ℕ} {h : Header} {heads : List ℕ} {rows : List (List ℕ)} (o : OpenedProgram file n h heads) (f : FunctionRows (payload file) (h .functions) rows) (g : ℕ) (l : g < h .functions) where
+  pub row-there : RowThere (payload file) g (getD rows g [])
+  row-there = record { there = rw (head-placed o g l) at (function-placed o g l); is = f .row g l }
+
+  pub row-alternatives : getD (getD rows g []) 6 0 ≡ byteAt (payload file) (headOffset (payload file) g + 6)
+  row-alternatives = ap (λ (row : List ℕ). getD row 6 0) (f .row g l)
+
+  pub few-rows : byteAt (payload file) (headOffset (payload file) g + 6) ≤ 4
+  few-rows = rw (head-placed o g l) at (function-placed o g l .few-alternatives)
+
+  pub head-within : getD heads g 0 ≤ 32256
+  head-within = omega (arith, function-placed o g l .head, o .opened .long, o .opened .small)
+
+  pub alternative-within : (k : ℕ) → k < getD (getD rows g []) 6 0 → getD heads g 0 + 10 + 6 * k + 6 ≤ n
+  alternative-within k t =
+      let c : k < byteAt (payload file) (getD heads g 0 + 6) = rw (head-placed o g l) (omega (arith, row-alternatives)) in
+      rw (o .opened .long) (function-placed o g l .alternative k c .0)
+
+  pub alternative-read : (k : ℕ) {a : AlternativeRecord} {row : List ℕ} → a ≡ alternativeAt (payload file) (getD heads g 0 + 10 + 6 * k) → row ≡ alternativeRow a
+      → row ≡ alternativeRow (alternativeAt (payload file) (alternativeOffset (headOffset (payload file) g) k))
+  alternative-read k e q = q ∙ ap alternativeRow (e ∙ ap (λ (x : ℕ). alternativeAt (payload file) (alternativeOffset x k)) (head-placed o g l))
+
+---- What fits a byte
+
+module _ {file : List ℕ} {n : ℕ} (o : Opened file n) (small : (k : ℕ) → getD file k 0 < 256) where
+  pub byte-small : (k : ℕ) → byteAt (payload file) k < 256
+  byte-small k = go (ltb k n) refl
+    where
+      go : (t : Bool) → ltb k n ≡ t → byteAt (payload file) k < 256
+      go true l = rw (← opened-byte o k (ltb-true k n l)) (small _)
+      go false l = let z = o .long in rw (List·getD-eq-default (payload file) 0 {n = k} (omega (arith, ltb-false k n l))) (omega arith)
+
+  -- the first six numbers of a row
+  pub signature-small : (at a b c j : ℕ) → j < 6 → getD (nameRow (declarationAt (payload file) at) a b c) j 0 < 256
+  signature-small at a b c = go
+    where
+      go : (j : ℕ) → j < 6 → getD (nameRow (declarationAt (payload file) at) a b c) j 0 < 256
+      go zero l = byte-small at
+      go (suc zero) l = byte-small (at + 1)
+      go (suc (suc zero)) l = byte-small (at + 2)
+      go (suc (suc (suc zero))) l = byte-small (at + 2 + 1)
+      go (suc (suc (suc (suc zero)))) l = byte-small (at + 2 + 2)
+      go (suc (suc (suc (suc (suc zero))))) l = byte-small (at + 2 + 3)
+      go (suc (suc (suc (suc (suc (suc j)))))) l = absurd (omega arith)
