@@ -26,3 +26,4 @@ pub mod MoveLaws
 pub mod SlotLaws
 pub mod SizesLaws
 pub mod RowLaws
+pub mod OneLaws

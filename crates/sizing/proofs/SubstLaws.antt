@@ -5,16 +5,18 @@ use Prim.Native.Nat.{ℕ, zero, suc, _+_, _*_, _-_, _≤_, _<_, zero-le}
 use native.Mathlib.Omega.{arith}
 use native.Mathlib.Numerals.{add-one}
 use native.Mathlib.Nat.{le-trans, le-refl, mul-le-mul-right}
-use lib.ListN.{length, getD, take, drop, length-map, List·getD-map, drop-of-length-le}
+use lib.ListN.{length, getD, set, take, drop, length-map, List·getD-map, drop-of-length-le}
 use lib.Seq.{drop-cons, getD-take, length-take-le}
+use Rattle.rules.specs.declared.records.Alternative.{Alternative}
 use Rattle.rules.specs.declared.records.AlternativeRecord.{AlternativeRecord}
 use Rattle.rules.specs.Lists.{l[], _l∷_}
 use Rattle.rules.specs.Forms.{Form, added, flatMap, constantOnly, substituted}
 use Rattle.sizing.specs.declared.forms.Form as code
-use Rattle.sizing.specs.Put.{AllBelow}
+use Rattle.sizing.specs.Put.{Below, AllBelow, noAlternative}
 use Rattle.sizing.specs.Forms.{formIn, FormRight, Entry, Made, choices, noForm, argumentsIn, RowRight, Arguments}
 use Rattle.sizing.proofs.PutLaws.{constant-wide, constant-at}
 use Rattle.sizing.proofs.RightLaws.{form-length}
+use Rattle.sizing.proofs.OneLaws.{first-below, one-made}
 use Rattle.sizing.proofs.BuildLaws.{flat-length, flat-below, below-more, choices-none}
 
 abbrev pub EachSome : List Form → Type 0
@@ -138,3 +140,22 @@ module _ (row : AlternativeRecord) (n : ℕ) (arguments : List code.Form) (r : R
   substituting-asks k rest h p m =
       let f = a .few in
       (r .small k, a .entries k h, p .right, p .some, below-more (225 * (n - (k + 1))) (65535 + 1966080 * (n - (k + 1))) 32768 16777216 (formIn rest) (omega arith) (omega arith) (p .below), omega (arith, m))
+
+  -- one alternative into one
+  module _ (k : ℕ) (rest : code.Form) (h : k < n) (p : Substituting row n arguments (k + 1) rest) (m : getD (row .coefficients) k 0 ≡ 0 → ⊥) (two : getD arguments k noForm .count + rest .count ≡ 2) where
+    one : getD arguments k noForm .count ≡ 1
+    one = omega (arith, a .entries k h .some, p .some)
+
+    single : rest .count ≡ 1
+    single = omega (arith, a .entries k h .some, p .some)
+
+    pub substituting-one-asks : (getD (row .coefficients) k 0 ≤ 15) × Below 15 131072 (getD (getD arguments k noForm .alternatives) 0 noAlternative) × Below 32768 16777216 (getD (rest .alternatives) 0 noAlternative)
+    substituting-one-asks =
+        let q = substituting-asks k rest h p m in
+        (q .0, first-below (getD arguments k noForm) (q .1 .right) one (q .1 .below), first-below rest (q .2) single (q .4))
+
+    pub substituting-one : {x : Alternative} → x ≡ added (getD (row .coefficients) k 0) (getD (getD arguments k noForm .alternatives) 0 noAlternative) (getD (rest .alternatives) 0 noAlternative)
+        → Substituting row n arguments k (record { alternatives = set (rest .alternatives) 0 x; count = rest .count })
+    substituting-one e =
+        let q = substituting-asks k rest h p m in let b = substituting-one-asks in
+        substituting-next k rest (record { alternatives = set (rest .alternatives) 0 _; count = rest .count }) h p (one-made (getD (row .coefficients) k 0) (getD arguments k noForm) rest (q .5) (q .1) (q .2) one single (b .1 .0) (b .2 .0) e) .0 (λ z. omega (arith, p .some))

@@ -109,7 +109,7 @@ pub fn chosen(m: u16, form: Form, rest: Form) -> Form
 }
 
 // The forms of n arguments put into an alternative of a bound, where an argument with coefficient 0 has no part; none where there
-// are more than 16.
+// are more than 16. Most forms have one alternative, and one is put into one in place: copying forms is what takes time.
 pub fn substitute(row: AlternativeRecord, n: usize, arguments: [Form; 4]) -> Form
     requires { ⌜ RowRight row × Arguments arguments n ⌝ }
     ensures { λ x. ⌜ Made x (substituted (take n (row .coefficients)) (row .constant) (argumentsIn arguments n)) ⌝ }
@@ -123,7 +123,14 @@ pub fn substitute(row: AlternativeRecord, n: usize, arguments: [Form; 4]) -> For
         if m == 0 {
             continue;
         }
-        rest = chosen(m, arguments[k], rest);
+        let form = arguments[k];
+        if form.count + rest.count == 2 {
+            let b = form.alternatives[0];
+            let a = rest.alternatives[0];
+            rest.alternatives[0] = plus(m, b, a);
+            continue;
+        }
+        rest = chosen(m, form, rest);
         let made = rest.count;
         if made == 0 {
             return rest;

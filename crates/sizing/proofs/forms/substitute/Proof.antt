@@ -2,7 +2,7 @@
 use mathlib.Core.Path.{_≡_}
 use Prim.Native.Nat.{_≤_, _+_, _-_}
 use native.Mathlib.Omega.{arith}
-use Rattle.sizing.proofs.SubstLaws.{Substituting, substituting-start, substituting-skip, substituting-asks, substituting-next}
+use Rattle.sizing.proofs.SubstLaws.{Substituting, substituting-start, substituting-skip, substituting-asks, substituting-next, substituting-one-asks, substituting-one}
 use borrow.Author.Needs.{needs}
 use Rattle.sizing.proofs.forms.substitute.Statement.{statement}
 use Rattle.sizing.proofs.forms.substitute.Tie as tie
@@ -35,36 +35,46 @@ loop-less : tie.Need-loop-less Inv-loop μ-loop
 loop-less c = search needs
 
 loop-again : tie.Need-loop-again Inv-loop μ-loop
-loop-again c =
-    let e : c .before .before .before .loop .t ≡ c .before .before .before .loop .t - 1 + 1 = omega arith in
-    (omega arith, substituting-skip (c .before .before .before .before .before .args .t1) (c .before .before .before .before .before .args .n) (c .before .before .before .before .before .args .t3) (c .before .before .before .before .before .pre .0) (c .before .before .before .before .before .pre .1) (c .before .before .before .loop .t - 1) (c .before .before .before .loop .rest) (omega arith) (rw e at (c .before .before .before .loop .inv .1)) (c .if1 .taken))
+loop-again c = let e : c .before .before .before .loop .t ≡ c .before .before .before .loop .t - 1 + 1 = omega arith in (omega arith, substituting-skip (c .before .before .before .before .before .args .t1) (c .before .before .before .before .before .args .n) (c .before .before .before .before .before .args .t3) (c .before .before .before .before .before .pre .0) (c .before .before .before .before .before .pre .1) (c .before .before .before .loop .t - 1) (c .before .before .before .loop .rest) (omega arith) (rw e at (c .before .before .before .loop .inv .1)) (c .if1 .taken))
 
-mul-chosen : tie.Need-mul-chosen Inv-loop μ-loop
-mul-chosen c = let z = c .before .before .before .before .before .pre .1 .few in omega arith
+mul-form : tie.Need-mul-form Inv-loop μ-loop
+mul-form c = let z = c .before .before .before .before .before .pre .1 .few in omega arith
 
-array-copy-out-chosen : tie.Need-array-copy-out-chosen Inv-loop μ-loop
-array-copy-out-chosen c = let z = c .before .before .before .before .before .pre .1 .few in omega arith
+array-copy-out-form : tie.Need-array-copy-out-form Inv-loop μ-loop
+array-copy-out-form c = let z = c .before .before .before .before .before .pre .1 .few in omega arith
 
-chosen-requires : tie.Need-chosen-requires Inv-loop μ-loop
-chosen-requires c κs =
-    let e : c .before .before .before .before .loop .t ≡ c .before .before .before .before .loop .t - 1 + 1 = omega arith in
-    substituting-asks (c .before .before .before .before .before .before .args .t1) (c .before .before .before .before .before .before .args .n) (c .before .before .before .before .before .before .args .t3) (c .before .before .before .before .before .before .pre .0) (c .before .before .before .before .before .before .pre .1) (c .before .before .before .before .loop .t - 1) (c .before .before .before .before .loop .rest) (omega arith) (rw e at (c .before .before .before .before .loop .inv .1)) (c .before .if1 .left)
+add-if2 : tie.Need-add-if2 Inv-loop μ-loop
+add-if2 c = let e : c .before .before .before .before .loop .t ≡ c .before .before .before .before .loop .t - 1 + 1 = omega arith in let q = substituting-asks (c .before .before .before .before .before .before .args .t1) (c .before .before .before .before .before .before .args .n) (c .before .before .before .before .before .before .args .t3) (c .before .before .before .before .before .before .pre .0) (c .before .before .before .before .before .before .pre .1) (c .before .before .before .before .loop .t - 1) (c .before .before .before .before .loop .rest) (omega arith) (rw e at (c .before .before .before .before .loop .inv .1)) (c .before .if1 .left) in omega (arith, q .1 .right .few, q .2 .few)
 
-returns : tie.Need-returns Inv-loop μ-loop
-returns c =
-    let e : c .before .before .before .before .before .before .loop .t ≡ c .before .before .before .before .before .before .loop .t - 1 + 1 = omega arith in
-    let q = substituting-next (c .before .before .before .before .before .before .before .before .args .t1) (c .before .before .before .before .before .before .before .before .args .n) (c .before .before .before .before .before .before .before .before .args .t3) (c .before .before .before .before .before .before .before .before .pre .0) (c .before .before .before .before .before .before .before .before .pre .1) (c .before .before .before .before .before .before .loop .t - 1) (c .before .before .before .before .before .before .loop .rest) (c .before .chosen .result) (omega arith) (rw e at (c .before .before .before .before .before .before .loop .inv .1)) (c .before .chosen .ensures) in
-    let z = c .if2 .taken in
-    record { many = q .1; right = λ g. absurd (omega arith) }
+element-copy-out-b : tie.Need-element-copy-out-b Inv-loop μ-loop
+element-copy-out-b c = search needs
+
+element-copy-out-a : tie.Need-element-copy-out-a Inv-loop μ-loop
+element-copy-out-a c = search needs
+
+plus-requires : tie.Need-plus-requires Inv-loop μ-loop
+plus-requires c κs = let e : c .before .before .before .before .before .before .before .loop .t ≡ c .before .before .before .before .before .before .before .loop .t - 1 + 1 = omega arith in substituting-one-asks (c .before .before .before .before .before .before .before .before .before .args .t1) (c .before .before .before .before .before .before .before .before .before .args .n) (c .before .before .before .before .before .before .before .before .before .args .t3) (c .before .before .before .before .before .before .before .before .before .pre .0) (c .before .before .before .before .before .before .before .before .before .pre .1) (c .before .before .before .before .before .before .before .loop .t - 1) (c .before .before .before .before .before .before .before .loop .rest) (omega arith) (rw e at (c .before .before .before .before .before .before .before .loop .inv .1)) (c .before .before .before .before .if1 .left) (c .before .before .if2 .taken)
+
+element-set-from-rest : tie.Need-element-set-from-rest Inv-loop μ-loop
+element-set-from-rest c = search needs
 
 loop-less-2 : tie.Need-loop-less-2 Inv-loop μ-loop
 loop-less-2 c = search needs
 
 loop-again-2 : tie.Need-loop-again-2 Inv-loop μ-loop
-loop-again-2 c =
-    let e : c .before .before .before .before .before .before .loop .t ≡ c .before .before .before .before .before .before .loop .t - 1 + 1 = omega arith in
-    let q = substituting-next (c .before .before .before .before .before .before .before .before .args .t1) (c .before .before .before .before .before .before .before .before .args .n) (c .before .before .before .before .before .before .before .before .args .t3) (c .before .before .before .before .before .before .before .before .pre .0) (c .before .before .before .before .before .before .before .before .pre .1) (c .before .before .before .before .before .before .loop .t - 1) (c .before .before .before .before .before .before .loop .rest) (c .before .chosen .result) (omega arith) (rw e at (c .before .before .before .before .before .before .loop .inv .1)) (c .before .chosen .ensures) in
-    (omega arith, q .0 (c .if2 .left))
+loop-again-2 c = let e : c .before .before .before .before .before .before .before .before .loop .t ≡ c .before .before .before .before .before .before .before .before .loop .t - 1 + 1 = omega arith in (omega arith, substituting-one (c .before .before .before .before .before .before .before .before .before .before .args .t1) (c .before .before .before .before .before .before .before .before .before .before .args .n) (c .before .before .before .before .before .before .before .before .before .before .args .t3) (c .before .before .before .before .before .before .before .before .before .before .pre .0) (c .before .before .before .before .before .before .before .before .before .before .pre .1) (c .before .before .before .before .before .before .before .before .loop .t - 1) (c .before .before .before .before .before .before .before .before .loop .rest) (omega arith) (rw e at (c .before .before .before .before .before .before .before .before .loop .inv .1)) (c .before .before .before .before .before .if1 .left) (c .before .before .before .if2 .taken) (c .plus .ensures))
+
+chosen-requires : tie.Need-chosen-requires Inv-loop μ-loop
+chosen-requires c κs = let e : c .before .before .before .before .before .loop .t ≡ c .before .before .before .before .before .loop .t - 1 + 1 = omega arith in substituting-asks (c .before .before .before .before .before .before .before .args .t1) (c .before .before .before .before .before .before .before .args .n) (c .before .before .before .before .before .before .before .args .t3) (c .before .before .before .before .before .before .before .pre .0) (c .before .before .before .before .before .before .before .pre .1) (c .before .before .before .before .before .loop .t - 1) (c .before .before .before .before .before .loop .rest) (omega arith) (rw e at (c .before .before .before .before .before .loop .inv .1)) (c .before .before .if1 .left)
+
+returns : tie.Need-returns Inv-loop μ-loop
+returns c = let e : c .before .before .before .before .before .before .before .loop .t ≡ c .before .before .before .before .before .before .before .loop .t - 1 + 1 = omega arith in let q = substituting-next (c .before .before .before .before .before .before .before .before .before .args .t1) (c .before .before .before .before .before .before .before .before .before .args .n) (c .before .before .before .before .before .before .before .before .before .args .t3) (c .before .before .before .before .before .before .before .before .before .pre .0) (c .before .before .before .before .before .before .before .before .before .pre .1) (c .before .before .before .before .before .before .before .loop .t - 1) (c .before .before .before .before .before .before .before .loop .rest) (c .before .chosen .result) (omega arith) (rw e at (c .before .before .before .before .before .before .before .loop .inv .1)) (c .before .chosen .ensures) in let z = c .if3 .taken in record { many = q .1; right = λ g. absurd (omega arith) }
+
+loop-less-3 : tie.Need-loop-less-3 Inv-loop μ-loop
+loop-less-3 c = search needs
+
+loop-again-3 : tie.Need-loop-again-3 Inv-loop μ-loop
+loop-again-3 c = let e : c .before .before .before .before .before .before .before .loop .t ≡ c .before .before .before .before .before .before .before .loop .t - 1 + 1 = omega arith in let q = substituting-next (c .before .before .before .before .before .before .before .before .before .args .t1) (c .before .before .before .before .before .before .before .before .before .args .n) (c .before .before .before .before .before .before .before .before .before .args .t3) (c .before .before .before .before .before .before .before .before .before .pre .0) (c .before .before .before .before .before .before .before .before .before .pre .1) (c .before .before .before .before .before .before .before .loop .t - 1) (c .before .before .before .before .before .before .before .loop .rest) (c .before .chosen .result) (omega arith) (rw e at (c .before .before .before .before .before .before .before .loop .inv .1)) (c .before .chosen .ensures) in (omega arith, q .0 (c .if3 .left))
 
 returns-2 : tie.Need-returns-2 Inv-loop μ-loop
 returns-2 c = let e : c .before .loop .t ≡ 0 = omega arith in let q = rw e at (c .before .loop .inv .1) in let y = q .some in record { many = λ z. absurd (omega arith); right = λ g. (q .right, q .same) }
@@ -83,10 +93,17 @@ substitute-spec =
     cast-m
     loop-less
     loop-again
-    mul-chosen
-    array-copy-out-chosen
-    chosen-requires
-    returns
+    mul-form
+    array-copy-out-form
+    add-if2
+    element-copy-out-b
+    element-copy-out-a
+    plus-requires
+    element-set-from-rest
     loop-less-2
     loop-again-2
+    chosen-requires
+    returns
+    loop-less-3
+    loop-again-3
     returns-2)
