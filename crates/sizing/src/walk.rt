@@ -183,18 +183,7 @@ fn step(
             far: 0,
             on: i + 1,
         },
-        Instruction::Build(_) => line_move(
-            program,
-            n,
-            constructors,
-            functions,
-            alternatives,
-            g,
-            f,
-            i,
-            st,
-        ),
-        Instruction::Call(_) => line_move(
+        Instruction::Build(_) | Instruction::Call(_) => line_move(
             program,
             n,
             constructors,

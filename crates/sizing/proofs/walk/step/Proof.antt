@@ -1,16 +1,20 @@
 -- One law for each way through: nothing arrives, or one of the six instructions.
 use mathlib.Core.Path.{_≡_, refl, ap}
-use mathlib.Core.List.{List}
+use mathlib.Core.List.{List, [], _∷_}
+use mathlib.Core.Logic.{⊎-elim}
 use Prim.Native.Nat.{ℕ, _+_, _*_, _-_, _≤_}
 use native.Mathlib.Omega.{arith}
 use lib.ListN.{length}
 use borrow.Author.Tests.{not-true, not-false}
+use denote.Enum.Declared.{tagOf}
+use types.Run.{OneOf}
+use Rattle.rules.proofs.records.Instruction.{the-type}
 use Rattle.rules.specs.declared.records.Instruction.{Instruction}
-use Rattle.rules.specs.declared.records.Instruction.the-variants.{Build, Call}
+use Rattle.rules.specs.declared.records.Instruction.the-variants.{Load, Build, Call, Branch, Return, Stop}
 use Rattle.rules.specs.Shapes.{shapeFrom}
 use Rattle.sizing.specs.declared.paths.Saved.{Saved}
 use Rattle.sizing.specs.Routines.{Tables, tables}
-use Rattle.sizing.specs.Walking.{functionIn}
+use Rattle.sizing.specs.Walking.{functionIn, Makes}
 use Rattle.sizing.specs.Moves.{MoveAsks}
 use Rattle.sizing.proofs.FileLaws.{here}
 use Rattle.sizing.proofs.ReachLaws.{at-place, at-instruction}
@@ -47,6 +51,15 @@ move c =
 
 as-is : {file : List ℕ} {n : ℕ} {ts : Tables} {g i : ℕ} {st : Saved} {x y : Instruction} → MoveAsks file n ts g i st x → x ≡ y → MoveAsks file n ts g i st y
 as-is m e = rw e at m
+
+-- the tag of a build or a call
+makes-entry : (ins : Instruction) → OneOf (1 ∷ 2 ∷ []) (tagOf the-type ins) → Makes ins
+makes-entry (Load a) k = ⊎-elim (λ z. omega arith) (λ z. omega arith) k
+makes-entry (Build c) k = tt
+makes-entry (Call g) k = tt
+makes-entry (Branch c b) k = ⊎-elim (λ z. omega arith) (λ z. omega arith) k
+makes-entry Return k = ⊎-elim (λ z. omega arith) (λ z. omega arith) k
+makes-entry Stop k = ⊎-elim (λ z. omega arith) (λ z. omega arith) k
 
 add-stay : tie.Need-add-stay
 add-stay c = omega (arith, short (c .before .before))
@@ -90,17 +103,8 @@ unvisited-requires c κs = search needs
 add-t26 : tie.Need-add-t26
 add-t26 c = omega (arith, short (c .before .before .before .before .before .before .before .before .before .before))
 
-enum-told : tie.Need-enum-told
-enum-told c = search needs
-
 line-move-requires : tie.Need-line-move-requires
-line-move-requires c κs = record { ins = Build (c .enum-told .given .0 .0); move = as-is (move (c .before .before)) (c .enum-told .given .1); makes = tt; routine = c .before .before .before .before .before .before .before .pre .routine }
-
-enum-told-2 : tie.Need-enum-told-2
-enum-told-2 c = search needs
-
-line-move-requires-2 : tie.Need-line-move-requires-2
-line-move-requires-2 c κs = record { ins = Call (c .enum-told2 .given .0 .0); move = as-is (move (c .before .before)) (c .enum-told2 .given .1); makes = tt; routine = c .before .before .before .before .before .before .before .pre .routine }
+line-move-requires c κs = record { ins = c .before .instruction .result; move = move (c .before); makes = makes-entry (c .before .instruction .result) (c .match .keys2); routine = c .before .before .before .before .before .before .pre .routine }
 
 enum-known-ins-2 : tie.Need-enum-known-ins-2
 enum-known-ins-2 c = search needs
@@ -108,8 +112,8 @@ enum-known-ins-2 c = search needs
 branch-requires : tie.Need-branch-requires
 branch-requires c κs = (_, _, _, _, as-is (move (c .before .before .before)) (c .before .ins2 .given .1))
 
-enum-told-3 : tie.Need-enum-told-3
-enum-told-3 c = search needs
+enum-told : tie.Need-enum-told
+enum-told c = search needs
 
 add-stay-2 : tie.Need-add-stay-2
 add-stay-2 c = omega (arith, short (c .before .before .before .before .before .before))
@@ -117,8 +121,8 @@ add-stay-2 c = omega (arith, short (c .before .before .before .before .before .b
 stay-requires-2 : tie.Need-stay-requires-2
 stay-requires-2 c κs = search needs
 
-enum-told-4 : tie.Need-enum-told-4
-enum-told-4 c = search needs
+enum-told-2 : tie.Need-enum-told-2
+enum-told-2 c = search needs
 
 add-stay-3 : tie.Need-add-stay-3
 add-stay-3 c = omega (arith, short (c .before .before .before .before .before .before))
@@ -133,18 +137,15 @@ returns-3 : tie.Need-returns-3
 returns-3 c = search needs
 
 returns-4 : tie.Need-returns-4
-returns-4 c = search needs
+returns-4 c = c .branch .ensures _ _ _ _ (as-is (move (c .before .before .before .before)) (c .before .before .ins2 .given .1))
 
 returns-5 : tie.Need-returns-5
-returns-5 c = c .branch .ensures _ _ _ _ (as-is (move (c .before .before .before .before)) (c .before .before .ins2 .given .1))
+unfolding shapeFrom
+returns-5 c = said-end (as-is (move (c .before .before .before)) (c .before .enum-told .given .1)) refl (c .stay2 .ensures)
 
 returns-6 : tie.Need-returns-6
 unfolding shapeFrom
-returns-6 c = said-end (as-is (move (c .before .before .before)) (c .before .enum-told3 .given .1)) refl (c .stay2 .ensures)
-
-returns-7 : tie.Need-returns-7
-unfolding shapeFrom
-returns-7 c = said-end (as-is (move (c .before .before .before)) (c .before .enum-told4 .given .1)) refl (c .stay3 .ensures)
+returns-6 c = said-end (as-is (move (c .before .before .before)) (c .before .enum-told2 .given .1)) refl (c .stay3 .ensures)
 
 pub step-spec : {M : Type 1} → statement M
 step-spec =
@@ -164,21 +165,17 @@ step-spec =
     add-t24
     unvisited-requires
     add-t26
-    enum-told
     line-move-requires
-    enum-told-2
-    line-move-requires-2
     enum-known-ins-2
     branch-requires
-    enum-told-3
+    enum-told
     add-stay-2
     stay-requires-2
-    enum-told-4
+    enum-told-2
     add-stay-3
     stay-requires-3
     returns-2
     returns-3
     returns-4
     returns-5
-    returns-6
-    returns-7)
+    returns-6)
