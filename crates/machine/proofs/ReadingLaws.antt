@@ -1,6 +1,6 @@
 -- Laws of the argument check: what each byte leaves to be read, and what is left of the whole check.
 use Prim.Native.Nat.{ℕ, _+_, _-_, _*_, _≤_, _<_}
-use mathlib.Core.Path.{_≡_, refl, sym, ap, _∙_, subst}
+use mathlib.Core.Path.{_≡_, sym, ap, _∙_, subst}
 use mathlib.Core.List.{List, [], _∷_, _++_, append-assoc, append-nil}
 use mathlib.Core.Option.{none, some}
 use native.Mathlib.Omega.{arith}
@@ -25,9 +25,6 @@ use Rattle.machine.proofs.IndexLaws.{constructor-is, held-arity}
 use Rattle.machine.proofs.ResultLaws.{sets-append}
 
 ---- Putting types
-
-pub put-none : (l : List ℕ) (at : ℕ) (xs : List ℕ) → l ≡ sets l at (take 0 xs)
-put-none l at xs = refl
 
 pub put-more : (l : List ℕ) (at : ℕ) (xs : List ℕ) (j : ℕ) (l′ : List ℕ) → j < length xs → l′ ≡ sets l at (take j xs) → set l′ (at + j) (getD xs j 0) ≡ sets l at (take (j + 1) xs)
 put-more l at xs j l′ h e =

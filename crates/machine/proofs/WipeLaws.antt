@@ -1,5 +1,5 @@
 -- Laws of tables whose usable entries are made zero.
-use Prim.Native.Nat.{ℕ, _+_, _*_, _-_, _≤_, _<_}
+use Prim.Native.Nat.{ℕ, _+_, _-_, _≤_, _<_}
 use mathlib.Core.Path.{_≡_, sym, ap, _∙_}
 use mathlib.Core.List.{List, _++_}
 use mathlib.Core.Bool.{true}
@@ -8,9 +8,7 @@ use native.Mathlib.Omega.{arith}
 use lib.ListN.{length, getD, drop, replicate, length-append, length-drop, length-replicate, getD-replicate, List·getD-append}
 use lib.Seq.{ext-getD, getD-append-add, getD-drop}
 use Rattle.rules.specs.Memory.{tableAfter}
-use Rattle.machine.specs.declared.state.Limits.{Limits}
 use Rattle.machine.specs.Steps.{Kept, Cleared}
-use Rattle.machine.specs.Frames.{Spared, Wiped}
 use Rattle.machine.proofs.EntryLaws.{lt-or-ge}
 
 abbrev zeros : ℕ → List ℕ
@@ -41,12 +39,3 @@ pub wiped-kept : (n : ℕ) (l l₁ : List ℕ) → n ≤ length l → Kept 0 n l
 unfolding tableAfter
 wiped-kept n l l₁ h k = ap (λ (r : List ℕ). replicate n 0 ++ r) (ext-getD 0 (drop n l₁) (drop n l) (length-drop n l₁ ∙ ap (λ (x : ℕ). x - n) (k .len) ∙ sym (length-drop n l)) (λ i m.
     getD-drop n l₁ i 0 ∙ k .high (n + i) (omega arith) ∙ sym (getD-drop n l i 0)))
-
--- after a run that spared what is not usable
-pub wiped-after : (m : Limits) (a b c a₁ b₁ c₁ a₂ b₂ c₂ : List ℕ) → 5 * m .cells ≤ length a → m .stack ≤ length b → 3 * m .frames ≤ length c
-    → Spared m a b c a₁ b₁ c₁ → Wiped m a₁ b₁ c₁ a₂ b₂ c₂ → Wiped m a b c a₂ b₂ c₂
-wiped-after m a b c a₁ b₁ c₁ a₂ b₂ c₂ ha hb hc s w = record {
-  of-cells = w .of-cells ∙ wiped-kept _ a a₁ ha (s .of-cells);
-  of-stack = w .of-stack ∙ wiped-kept _ b b₁ hb (s .of-stack);
-  of-frames = w .of-frames ∙ wiped-kept _ c c₁ hc (s .of-frames);
-}

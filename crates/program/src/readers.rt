@@ -131,7 +131,7 @@ pub fn instruction_record(program: &[u8], n: usize, at: usize) -> InstructionRec
     }
 }
 
-// For the crates above: the instruction that a record says, if it is right.
+// For the crates above: the instruction that a record says, if it is right. A branch comes first: it alone uses b.
 pub fn operation_of(r: InstructionRecord) -> Fetched
     ensures { λ f. ⌜ fetched f ≡ operation r ⌝ }
 {

@@ -46,10 +46,6 @@ module _ (s : Program) (κ : ℕ) (w : ℕ → ℕ) where
   amounts-list [] = refl
   amounts-list (e ∷ es) = ap (λ (l : List ℕ). amount e ∷ l) (amounts-list es)
 
--- how often variable k stands in an expression
-abbrev pub occurs : Program → ℕ → Expression → ℕ
-occurs s k e = amount s 0 (one-at k) e
-
 module _ (s : Program) (κ : ℕ) (w : ℕ → ℕ) (k : ℕ) (e′ : Expression) where
   mutual
     unfolding replace

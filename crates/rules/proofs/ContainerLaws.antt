@@ -5,12 +5,12 @@ use mathlib.Core.Bool.{Bool, true, false, _&&_, and-eq-true-iff}
 use Prim.Native.Nat.{ℕ, zero, suc, _+_, _*_, _-_, _/_, _%_, _≤_, _<_}
 use native.Mathlib.Omega.{arith}
 use native.Mathlib.Numerals.{add-one}
-use native.Mathlib.Nat.{add-zero, add-suc, suc-add, add-comm, not-suc-le-zero, le-of-suc-le-suc, le-trans, mul-le-mul}
+use native.Mathlib.Nat.{add-zero, add-suc, suc-add, add-comm, not-suc-le-zero, le-of-suc-le-suc}
 use lib.ListN.{length, take, drop, getD, length-append, length-drop, List·getD-append}
 use lib.Seq.{drop-cons, drop-drop, getD-append-add, getD-take, getD-drop, length-take-le}
-use lib.Dec.{leb, ltb, eqb, lit≤}
+use lib.Dec.{leb, ltb, eqb}
 use borrow.Author.Tests.{leb-true, ltb-true, ltb-false, eqb-true, eqb-false, eq-eqb, ne-eqb}
-use Rattle.rules.specs.Base.{found, refused, refusal, _>>=_, Check, passed, require, isZero, all, byteAt, wordAt, longAt}
+use Rattle.rules.specs.Base.{found, refused, refusal, _>>=_, passed, require, isZero, all, byteAt, wordAt, longAt}
 use Rattle.rules.specs.Container.{weighed, blockCheck, usedRight, blockRight, verifyBlock, verifyBlocks, lengthRight, verify, payloadOf, payload, placeOf}
 use Rattle.rules.specs.Opened.{Opened}
 use Rattle.rules.proofs.TriedLaws.{bind-found, required}
@@ -26,10 +26,6 @@ weighed-next k (x ∷ xs) (suc i) h =
     let ih : weighed (suc k) (take (suc i) xs) ≡ weighed (suc k) (take i xs) + getD xs i 0 * (k + suc i) =
     rw (add-suc, ← suc-add) (weighed-next (suc k) xs i (le-of-suc-le-suc h)) in
     omega arith
-
--- what one byte adds to a block's check
-pub term-small : (x i : ℕ) → x < 256 → i < 508 → x * (i + 1) ≤ 129540
-term-small x i hx hi = le-trans (mul-le-mul {n₁ = x} {m₁ = i + 1} {n₂ = 255} {m₂ = 508} (omega arith) (omega arith)) (lit≤ tt)
 
 -- the same in the code's words
 pub check-next : (b : List ℕ) (i : ℕ) → i < length b → weighed 1 (take (i + 1) b) ≡ weighed 1 (take i b) + getD b i 0 * (i + 1)
@@ -48,12 +44,6 @@ pub used-small : (last : Bool) (n : ℕ) → usedRight last n ≡ true → n ≤
 unfolding usedRight
 used-small true n e = leb-true n 504 ((and-eq-true-iff (leb 1 n) (leb n 504)) .0 e .1)
 used-small false n e = omega (arith, eqb-true n 504 e)
-
--- the verdict on a block from its four tests
-pub block-verdict : (last : Bool) (k : ℕ) (b : List ℕ) {t₁ t₂ t₃ t₄ : Bool} → eqb (longAt b 508) (blockCheck b) ≡ t₁ → eqb (wordAt b 0) k ≡ t₂ → usedRight last (wordAt b 2) ≡ t₃
-    → all isZero (drop (4 + wordAt b 2) (take 508 b)) ≡ t₄ → verifyBlock last k b ≡ (require t₁ (refusal 2 k 0) >>= (λ _. require (t₂ && t₃ && t₄) (refusal 3 k 0)))
-unfolding verifyBlock blockRight
-block-verdict last k b e₁ e₂ e₃ e₄ = rw (e₁, e₂, e₃, e₄)
 
 pub verify-refused : (s : List ℕ) → lengthRight (length s) ≡ false → verify s ≡ refused (refusal 1 0 0)
 unfolding verify

@@ -1,16 +1,14 @@
 -- What is left in lent memory, one law for each case.
-use mathlib.Core.Path.{_≡_, refl}
-use mathlib.Core.List.{List, _++_}
+use mathlib.Core.Path.{_≡_}
+use mathlib.Core.List.{List}
 use mathlib.Core.Bool.{true, false}
-use Prim.Native.Nat.{ℕ, _≤_}
-use native.Mathlib.Omega.{arith}
-use lib.ListN.{length, drop, replicate, length-append, length-drop, length-replicate}
+use Prim.Native.Nat.{ℕ}
 use Rattle.rules.specs.Base.{Refusal, found, refused}
 use Rattle.rules.specs.Program.{Program}
 use Rattle.rules.specs.Machine.{State}
 use Rattle.rules.specs.Check.{checked}
 use Rattle.rules.specs.Run.{Lent, usable, loaded}
-use Rattle.rules.specs.Memory.{frontWritten, isFound, begun, tableAfter}
+use Rattle.rules.specs.Memory.{begun}
 
 module _ (file : List ℕ) (entry : ℕ) (bytes : List ℕ) (lent : Lent) where
   pub begun-not-checked : {r : Refusal} → checked file ≡ refused r → begun file entry bytes lent ≡ false
@@ -24,7 +22,3 @@ module _ (file : List ℕ) (entry : ℕ) (bytes : List ℕ) (lent : Lent) where
   pub begun-loaded : {s : Program} {st : State} → checked file ≡ found s → loaded s (usable lent) entry bytes ≡ found st → begun file entry bytes lent ≡ true
   unfolding begun
   begun-loaded e w = rw (e, w)
-
--- a table keeps its length
-pub front-length : (bytes out : List ℕ) → length bytes ≤ length out → length (frontWritten bytes out) ≡ length out
-front-length bytes out h = simp (length-append, length-drop) (omega arith)

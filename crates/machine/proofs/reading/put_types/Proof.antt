@@ -1,6 +1,5 @@
 -- By the invariant that the first j types are put.
 use Prim.Native.Nat.{ℕ, _≤_, _-_}
--- By the invariant that the first j types are put.
 use mathlib.Core.Path.{_≡_, refl, ap, _∙_}
 use native.Mathlib.Omega.{arith}
 use lib.ListN.{length, take}
