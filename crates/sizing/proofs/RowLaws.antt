@@ -1,13 +1,13 @@
 -- What the rows of the tables say: of a constructor, of a function and of its alternatives, as the payload has them.
 use mathlib.Core.Path.{_≡_, refl, ap, _∙_}
 use mathlib.Core.List.{List, [], _∷_}
-use Prim.Native.Nat.{ℕ, zero, suc, _+_, _≤_, _<_}
+use Prim.Native.Nat.{ℕ, _+_, _≤_, _<_}
 use native.Mathlib.Omega.{arith}
 use lib.ListN.{getD}
 use Rattle.rules.specs.Base.{byteAt}
 use Rattle.rules.specs.Container.{payload}
-use Rattle.rules.specs.Records.{alternativeAt, alternativeOffset, constructorOffset, headOffset}
-use Rattle.tables.specs.Tables.{alternativeRow, alternativeIn}
+use Rattle.rules.specs.Records.{constructorOffset, headOffset}
+use Rattle.tables.specs.Tables.{alternativeIn}
 use Rattle.tables.proofs.TableLaws.{byte-small}
 use Rattle.sizing.specs.declared.forms.Bound.{Bound}
 use Rattle.sizing.specs.declared.routines.Maker.{Maker}
@@ -50,25 +50,18 @@ module _ {file : List ℕ} {n : ℕ} {ts : Tables} (r : Records file n ts) where
     pub row-count : getD (getD (ts .functions) g []) 6 0 ≡ byteAt (payload file) (headOffset (payload file) g + 6)
     row-count = ap (λ (x : List ℕ). getD x 6 0) (r .function .row g l)
 
-    coefficient-small : (at j : ℕ) → j < 4 → getD (alternativeRow (alternativeAt (payload file) at)) j 0 < 256
-    coefficient-small at zero h = small at
-    coefficient-small at (suc zero) h = small (at + 1)
-    coefficient-small at (suc (suc zero)) h = small (at + 2)
-    coefficient-small at (suc (suc (suc zero))) h = small (at + 3)
-    coefficient-small at (suc (suc (suc (suc j)))) h = absurd (omega arith)
-
     pub bound-asks : (count : ℕ) → count ≡ getD (getD (ts .functions) g []) 6 0 → BoundAsks (ts .alternatives) g count
     bound-asks count e = record {
       place = omega (arith, r .few);
       few = omega (arith, row-count, r .there .function g l .few-alternatives);
-      small = λ k j h i. rw (r .alternative .row g k l (omega (arith, row-count))) (coefficient-small (alternativeOffset place k) j i);
+      small = r .alternative .small;
     }
 
     pub routine-bound : {count : ℕ} {b : Bound} → count ≡ getD (getD (ts .functions) g []) 6 0 → BoundOf (ts .alternatives) g count b → BoundIs (payload file) (headOffset (payload file) g) (byteAt (payload file) (headOffset (payload file) g + 6)) b
     routine-bound e b = record {
       count-is = b .count-is ∙ e ∙ row-count;
       long = b .long;
-      rows = λ k h. b .row k (omega (arith, row-count)) ∙ ap alternativeIn (r .alternative .row g k l h);
+      rows = λ k h. b .row k (omega (arith, r .there .function g l .few-alternatives)) ∙ ap alternativeIn (r .alternative .row g k l h);
     }
 
     pub routine-is : {count : ℕ} {b : Bound} → count ≡ getD (getD (ts .functions) g []) 6 0 → BoundOf (ts .alternatives) g count b

@@ -28,16 +28,16 @@ tables constructors functions alternatives = record { constructors = constructor
 
 ---- What is looked up
 
--- function g has so many alternatives, whose coefficients are bytes
+-- function g has so many alternatives, and all coefficients are bytes
 pub record BoundAsks (rows : List (List ℕ)) (g count : ℕ) : Type 0 where
   pub place : g < 32
   pub few : count ≤ 4
-  pub small : (k j : ℕ) → k < count → j < 4 → getD (getD rows (4 * g + k) []) j 0 < 256
+  pub small : (i j : ℕ) → j < 4 → getD (getD rows i []) j 0 < 256
 
 pub record BoundOf (rows : List (List ℕ)) (g count : ℕ) (b : Bound) : Type 0 where
   pub count-is : b .count ≡ count
   pub long : length (b .rows) ≡ 4
-  pub row : (k : ℕ) → k < count → getD (b .rows) k noRow ≡ alternativeIn (getD rows (4 * g + k) [])
+  pub row : (k : ℕ) → k < 4 → getD (b .rows) k noRow ≡ alternativeIn (getD rows (4 * g + k) [])
 
 -- the alternatives of the function whose head stands at an offset
 pub record BoundIs (bytes : List ℕ) (at count : ℕ) (b : Bound) : Type 0 where

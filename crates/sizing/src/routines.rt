@@ -31,19 +31,15 @@ fn bound_of(alternatives: &[[u16; 5]; 128], g: usize, count: u16) -> Bound
     requires { ⌜ BoundAsks (now alternatives) g count ⌝ }
     ensures { λ r. ⌜ BoundOf (now (alternatives .entry)) g count r ⌝ }
 {
-    let k = count as usize;
-    let mut rows = [AlternativeRecord {
-        coefficients: [0u8; 4],
-        constant: 0,
-    }; 4];
-    let mut i: usize = 0;
-    while i < k {
-        rows[i] = alternative_in(alternatives[4 * g + i]);
-        i += 1;
-    }
+    let rows = [
+        alternative_in(alternatives[4 * g]),
+        alternative_in(alternatives[4 * g + 1]),
+        alternative_in(alternatives[4 * g + 2]),
+        alternative_in(alternatives[4 * g + 3]),
+    ];
     Bound {
         rows: rows,
-        count: k,
+        count: count as usize,
     }
 }
 

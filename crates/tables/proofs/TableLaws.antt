@@ -1,10 +1,10 @@
 -- A table that is filled place by place.
 use mathlib.Core.Path.{_≡_, refl, ap, _∙_}
-use mathlib.Core.List.{List, []}
+use mathlib.Core.List.{List, [], _∷_}
 use mathlib.Core.Bool.{Bool, true, false}
 use Prim.Native.Nat.{ℕ, zero, suc, _+_, _*_, _/_, _%_, _≤_, _<_}
 use native.Mathlib.Omega.{arith}
-use lib.ListN.{length, getD, set, length-set, List·getD-eq-default}
+use lib.ListN.{length, getD, set, replicate, length-set, List·getD-eq-default}
 use lib.Seq.{getD-set-same, getD-set-other}
 use lib.Dec.{eqb, ltb}
 use borrow.Author.Tests.{eqb-true, eqb-false, ltb-true, ltb-false}
@@ -42,16 +42,41 @@ AlternativeIn bytes i row = i % 4 < byteAt bytes (headOffset bytes (i / 4) + 6) 
 pub record Alternatives (bytes : List ℕ) (i : ℕ) (rows : List (List ℕ)) : Type 0 where
   pub long : length rows ≡ 128
   pub there : (j : ℕ) → j < i → AlternativeIn bytes j (getD rows j [])
+  pub small : (k j : ℕ) → j < 4 → getD (getD rows k []) j 0 < 256
 
-pub alternatives-start : (bytes : List ℕ) {rows : List (List ℕ)} → length rows ≡ 128 → Alternatives bytes 0 rows
-alternatives-start bytes e = record { long = e; there = λ j l. absurd (omega arith) }
+abbrev zeros : List ℕ
+zeros = 0 ∷ 0 ∷ 0 ∷ 0 ∷ 0 ∷ []
+
+blank : (n k j : ℕ) → _≡_ {A = ℕ} (getD (getD (replicate n zeros) k []) j 0) 0
+blank zero k j = refl
+blank (suc n) zero j = five j
+  where
+    five : (j : ℕ) → _≡_ {A = ℕ} (getD zeros j 0) 0
+    five zero = refl
+    five (suc zero) = refl
+    five (suc (suc zero)) = refl
+    five (suc (suc (suc zero))) = refl
+    five (suc (suc (suc (suc zero)))) = refl
+    five (suc (suc (suc (suc (suc j))))) = refl
+blank (suc n) (suc k) j = blank n k j
+
+pub alternatives-start : (bytes : List ℕ) → Alternatives bytes 0 (replicate 128 zeros)
+alternatives-start bytes = record { long = refl; there = λ j l. absurd (omega arith); small = λ k j l. omega (arith, blank 128 k j) }
 
 module _ {bytes : List ℕ} {i : ℕ} {rows : List (List ℕ)} (a : Alternatives bytes i rows) where
-  pub alternatives-stored : {row : List ℕ} → i < 128 → AlternativeIn bytes i row → Alternatives bytes (i + 1) (set rows i row)
-  alternatives-stored {row} l h = record { long = length-set rows i row ∙ a .long; there = stored-each [] (AlternativeIn bytes) rows i row (omega (arith, a .long)) (a .there) h }
+  pub alternatives-stored : {row : List ℕ} → i < 128 → AlternativeIn bytes i row → ((j : ℕ) → j < 4 → getD row j 0 < 256) → Alternatives bytes (i + 1) (set rows i row)
+  alternatives-stored {row} l h s = record {
+    long = length-set rows i row ∙ a .long;
+    there = stored-each [] (AlternativeIn bytes) rows i row (omega (arith, a .long)) (a .there) h;
+    small = λ k j m. go k j m (eqb k i) refl;
+  }
+    where
+      go : (k j : ℕ) → j < 4 → (t : Bool) → eqb k i ≡ t → getD (getD (set rows i row) k []) j 0 < 256
+      go k j m true e = rw (eqb-true k i e, getD-set-same rows i row [] (omega (arith, a .long))) (s j m)
+      go k j m false e = rw (getD-set-other rows i k row [] (eqb-false k i e)) (a .small k j m)
 
   pub alternatives-none : byteAt bytes (headOffset bytes (i / 4) + 6) ≤ i % 4 → Alternatives bytes (i + 1) rows
-  alternatives-none n = record { long = a .long; there = λ j l. go j l (eqb j i) refl }
+  alternatives-none n = record { long = a .long; there = λ j l. go j l (eqb j i) refl; small = a .small }
     where
       go : (j : ℕ) → j < i + 1 → (t : Bool) → eqb j i ≡ t → AlternativeIn bytes j (getD rows j [])
       go j l true e = rw (eqb-true j i e) (λ h. absurd (omega arith))
@@ -63,6 +88,7 @@ module _ {bytes : List ℕ} {i : ℕ} {rows : List (List ℕ)} (a : Alternatives
         let q : (4 * g + k) / 4 ≡ g = omega (arith, few g h) in
         let r : (4 * g + k) % 4 ≡ k = omega (arith, few g h) in
         rw (q, r) at (a .there (4 * g + k) (omega (arith, few g h))) t;
+    small = a .small;
   }
 
 -- a function by its row and by its head
@@ -110,3 +136,11 @@ module _ {file : List ℕ} {n : ℕ} (o : Opened file n) (small : (k : ℕ) → 
       go (suc (suc (suc (suc zero)))) l = byte-small (at + 2 + 2)
       go (suc (suc (suc (suc (suc zero))))) l = byte-small (at + 2 + 3)
       go (suc (suc (suc (suc (suc (suc j)))))) l = absurd (omega arith)
+
+  -- the coefficients of an alternative
+  pub coefficient-small : (at j : ℕ) → j < 4 → getD (alternativeRow (alternativeAt (payload file) at)) j 0 < 256
+  coefficient-small at zero h = byte-small at
+  coefficient-small at (suc zero) h = byte-small (at + 1)
+  coefficient-small at (suc (suc zero)) h = byte-small (at + 2)
+  coefficient-small at (suc (suc (suc zero))) h = byte-small (at + 3)
+  coefficient-small at (suc (suc (suc (suc j)))) h = absurd (omega arith)

@@ -52,9 +52,10 @@ pub record ConstructorRows (bytes : List ℕ) (m : ℕ) (rows : List (List ℕ))
 pub record FunctionRows (bytes : List ℕ) (m : ℕ) (rows : List (List ℕ)) : Type 0 where
   pub row : (g : ℕ) → g < m → getD rows g [] ≡ functionRow (headOffset bytes g) (headAt bytes (headOffset bytes g))
 
--- the alternatives of the first m functions of a payload
+-- the alternatives of the first m functions of a payload; the coefficients in all 128 rows are bytes
 pub record AlternativeRows (bytes : List ℕ) (m : ℕ) (rows : List (List ℕ)) : Type 0 where
   pub row : (g k : ℕ) → g < m → k < byteAt bytes (headOffset bytes g + 6) → getD rows (4 * g + k) [] ≡ alternativeRow (alternativeAt bytes (alternativeOffset (headOffset bytes g) k))
+  pub small : (i j : ℕ) → j < 4 → getD (getD rows i []) j 0 < 256
 
 -- function g, whose records are there and right, in a row
 pub record RowThere (bytes : List ℕ) (g : ℕ) (row : List ℕ) : Type 0 where

@@ -1,11 +1,10 @@
 -- Of the first i rows, those that have an alternative are in the table.
-use mathlib.Core.Path.{refl}
 use mathlib.Core.Logic.{⊎-elim}
 use Prim.Native.Nat.{_-_, _/_, _%_, _≤_}
 use native.Mathlib.Omega.{arith}
 use Rattle.rules.specs.Container.{payload}
 use Rattle.program.proofs.LayoutLaws.{functions-few}
-use Rattle.tables.proofs.TableLaws.{Alternatives, alternatives-start, alternatives-stored, alternatives-none, alternatives-end, row-alternatives, few-rows, head-within, alternative-within, alternative-read}
+use Rattle.tables.proofs.TableLaws.{Alternatives, alternatives-start, alternatives-stored, alternatives-none, alternatives-end, row-alternatives, few-rows, head-within, alternative-within, alternative-read, coefficient-small}
 use borrow.Author.Needs.{needs}
 use Rattle.tables.proofs.alternative_rows.Statement.{statement}
 use Rattle.tables.proofs.alternative_rows.Tie as tie
@@ -23,7 +22,7 @@ mul-m : tie.Need-mul-m Inv-loop μ-loop
 mul-m c = search needs
 
 loop-holds : tie.Need-loop-holds Inv-loop μ-loop
-loop-holds c = (search needs, alternatives-start _ refl)
+loop-holds c = (search needs, alternatives-start _)
 
 mul-if1 : tie.Need-mul-if1 Inv-loop μ-loop
 mul-if1 c = search needs
@@ -71,7 +70,7 @@ loop-less : tie.Need-loop-less Inv-loop μ-loop
 loop-less c = omega arith
 
 loop-again : tie.Need-loop-again Inv-loop μ-loop
-loop-again c = (omega arith, ⊎-elim (λ w. rw (w .4) (alternatives-stored (c .before .before .before .loop .inv .1) (omega (arith, functions-few (c .before .before .before .before .before .before .pre .0), c .before .before .before .before .wide .ensures .0)) (λ l. alternative-read (c .before .before .before .before .before .before .pre .0) (c .before .before .before .before .before .before .pre .1) (c .before .before .before .loop .i / 4) (omega (arith, c .before .before .before .before .wide .ensures .0)) (c .before .before .before .loop .i % 4) (w .2 .ensures) (w .3 .ensures)))) (λ w. rw (w .1) (alternatives-none (c .before .before .before .loop .inv .1) (omega (arith, w .0 .left, row-alternatives (c .before .before .before .before .before .before .pre .0) (c .before .before .before .before .before .before .pre .1) (c .before .before .before .loop .i / 4) (omega (arith, c .before .before .before .before .wide .ensures .0)))))) (c .if1 .came))
+loop-again c = (omega arith, ⊎-elim (λ w. let is = alternative-read (c .before .before .before .before .before .before .pre .0) (c .before .before .before .before .before .before .pre .1) (c .before .before .before .loop .i / 4) (omega (arith, c .before .before .before .before .wide .ensures .0)) (c .before .before .before .loop .i % 4) (w .2 .ensures) (w .3 .ensures) in rw (w .4) (alternatives-stored (c .before .before .before .loop .inv .1) (omega (arith, functions-few (c .before .before .before .before .before .before .pre .0), c .before .before .before .before .wide .ensures .0)) (λ l. is) (λ j l. rw is (coefficient-small (c .before .before .before .before .before .before .pre .0 .opened) (λ k. omega (arith, c .before .before .before .before .before .shared-slice-known .given k)) _ j l)))) (λ w. rw (w .1) (alternatives-none (c .before .before .before .loop .inv .1) (omega (arith, w .0 .left, row-alternatives (c .before .before .before .before .before .before .pre .0) (c .before .before .before .before .before .before .pre .1) (c .before .before .before .loop .i / 4) (omega (arith, c .before .before .before .before .wide .ensures .0)))))) (c .if1 .came))
 
 returns : tie.Need-returns Inv-loop μ-loop
 returns c = alternatives-end (c .before .loop .inv .1) _ (omega (arith, c .before .before .wide .ensures .0)) (few-rows (c .before .before .before .before .pre .0) (c .before .before .before .before .pre .1))

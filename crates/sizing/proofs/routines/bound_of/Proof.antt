@@ -1,73 +1,107 @@
--- The first i rows are decoded.
-use mathlib.Core.Path.{_≡_, refl, _∙_}
-use mathlib.Core.List.{[]}
-use Prim.Native.Nat.{ℕ, _+_, _*_, _-_, _≤_, _<_}
+-- All four rows are decoded.
+use mathlib.Core.Path.{_≡_, refl}
+use mathlib.Core.List.{List, [], _∷_}
+use Prim.Native.Nat.{ℕ, zero, suc, _+_, _*_, _<_}
 use native.Mathlib.Omega.{arith}
-use lib.ListN.{length, getD, length-set}
+use lib.ListN.{getD}
+use Rattle.rules.specs.declared.records.AlternativeRecord.{AlternativeRecord}
 use Rattle.tables.specs.Tables.{alternativeIn}
-use Rattle.tables.proofs.TableLaws.{stored-each}
 use Rattle.sizing.specs.Forms.{noRow}
 use borrow.Author.Needs.{needs}
 use Rattle.sizing.proofs.routines.bound_of.Statement.{statement}
 use Rattle.sizing.proofs.routines.bound_of.Tie as tie
 
-abbrev Inv-loop : tie.InvT-loop
-Inv-loop alternatives g count k rows₀ i₀ rows i = (i ≤ k) × (length rows ≡ 4) × ((j : ℕ) → j < i → getD rows j noRow ≡ alternativeIn (getD alternatives (4 * g + j) []))
+module _ (rows : List (List ℕ)) (g : ℕ) where
+  four : {a b c d : AlternativeRecord}
+      → a ≡ alternativeIn (getD rows (4 * g) []) → b ≡ alternativeIn (getD rows (4 * g + 1) []) → c ≡ alternativeIn (getD rows (4 * g + 2) []) → d ≡ alternativeIn (getD rows (4 * g + 3) [])
+      → (k : ℕ) → k < 4 → getD (a ∷ b ∷ c ∷ d ∷ []) k noRow ≡ alternativeIn (getD rows (4 * g + k) [])
+  four ea eb ec ed zero h = let e : 4 * g + 0 ≡ 4 * g = omega arith in rw e ea
+  four ea eb ec ed (suc zero) h = eb
+  four ea eb ec ed (suc (suc zero)) h = ec
+  four ea eb ec ed (suc (suc (suc zero))) h = ed
+  four ea eb ec ed (suc (suc (suc (suc k)))) h = absurd (omega arith)
 
-abbrev μ-loop : tie.MeasureT-loop
-μ-loop alternatives g count k rows₀ i₀ rows i = k - i
+mul-alternative-in : tie.Need-mul-alternative-in
+mul-alternative-in c = search needs
 
-loop-holds : tie.Need-loop-holds Inv-loop μ-loop
-loop-holds c = (search needs, refl, λ j l. absurd (omega arith))
+mul-alternative-in-2 : tie.Need-mul-alternative-in-2
+mul-alternative-in-2 c = search needs
 
-mul-alternative-in : tie.Need-mul-alternative-in Inv-loop μ-loop
-mul-alternative-in c = omega (arith, c .before .before .pre .place)
+element-copy-out-alternative-in : tie.Need-element-copy-out-alternative-in
+element-copy-out-alternative-in c = search needs
 
-add-alternative-in : tie.Need-add-alternative-in Inv-loop μ-loop
-add-alternative-in c = omega (arith, c .before .before .pre .place, c .before .before .pre .few)
+alternative-in-requires : tie.Need-alternative-in-requires
+alternative-in-requires c κs = λ j l. c .before .pre .small _ j l
 
-mul-alternative-in-2 : tie.Need-mul-alternative-in-2 Inv-loop μ-loop
-mul-alternative-in-2 c = omega (arith, c .before .before .pre .place, c .before .before .pre .few)
+mul-alternative-in-3 : tie.Need-mul-alternative-in-3
+mul-alternative-in-3 c = search needs
 
-element-copy-out-alternative-in : tie.Need-element-copy-out-alternative-in Inv-loop μ-loop
-element-copy-out-alternative-in c = omega (arith, c .before .before .pre .place, c .before .before .pre .few)
+add-alternative-in : tie.Need-add-alternative-in
+add-alternative-in c = search needs
 
-alternative-in-requires : tie.Need-alternative-in-requires Inv-loop μ-loop
-alternative-in-requires c κs = λ j l. c .before .before .before .pre .small (c .before .before .loop .i) j (c .before .loop-test .taken) l
+mul-alternative-in-4 : tie.Need-mul-alternative-in-4
+mul-alternative-in-4 c = search needs
 
-mul-rows : tie.Need-mul-rows Inv-loop μ-loop
-mul-rows c = omega (arith, c .before .before .before .before .pre .few)
+element-copy-out-alternative-in-2 : tie.Need-element-copy-out-alternative-in-2
+element-copy-out-alternative-in-2 c = search needs
 
-array-set-from-rows : tie.Need-array-set-from-rows Inv-loop μ-loop
-array-set-from-rows c = omega (arith, c .before .before .before .before .pre .few)
+alternative-in-requires-2 : tie.Need-alternative-in-requires-2
+alternative-in-requires-2 c κs = λ j l. c .before .before .before .pre .small _ j l
 
-add-i : tie.Need-add-i Inv-loop μ-loop
-add-i c = search needs
+mul-alternative-in-5 : tie.Need-mul-alternative-in-5
+mul-alternative-in-5 c = search needs
 
-loop-less : tie.Need-loop-less Inv-loop μ-loop
-loop-less c = search needs
+add-alternative-in-2 : tie.Need-add-alternative-in-2
+add-alternative-in-2 c = search needs
 
-loop-again : tie.Need-loop-again Inv-loop μ-loop
-loop-again c = let f = c .before .before .before .before .pre .few in let l = c .before .before .before .loop .inv .1 in (omega arith, length-set (c .before .before .before .loop .rows) (c .before .before .before .loop .i) (c .alternative-in .result) ∙ c .before .before .before .loop .inv .1, stored-each noRow (λ k x. x ≡ alternativeIn (getD (c .before .before .before .before .args .alternatives .now) (4 * c .before .before .before .before .args .g + k) [])) (c .before .before .before .loop .rows) (c .before .before .before .loop .i) (c .alternative-in .result) (omega arith) (c .before .before .before .loop .inv .2) (c .alternative-in .ensures))
+mul-alternative-in-6 : tie.Need-mul-alternative-in-6
+mul-alternative-in-6 c = search needs
 
-returns : tie.Need-returns Inv-loop μ-loop
-returns c = record { count-is = refl; long = c .before .loop .inv .1; row = λ k h. c .before .loop .inv .2 k (omega arith) }
+element-copy-out-alternative-in-3 : tie.Need-element-copy-out-alternative-in-3
+element-copy-out-alternative-in-3 c = search needs
+
+alternative-in-requires-3 : tie.Need-alternative-in-requires-3
+alternative-in-requires-3 c κs = λ j l. c .before .before .before .before .before .pre .small _ j l
+
+mul-alternative-in-7 : tie.Need-mul-alternative-in-7
+mul-alternative-in-7 c = search needs
+
+add-alternative-in-3 : tie.Need-add-alternative-in-3
+add-alternative-in-3 c = search needs
+
+mul-alternative-in-8 : tie.Need-mul-alternative-in-8
+mul-alternative-in-8 c = search needs
+
+element-copy-out-alternative-in-4 : tie.Need-element-copy-out-alternative-in-4
+element-copy-out-alternative-in-4 c = search needs
+
+alternative-in-requires-4 : tie.Need-alternative-in-requires-4
+alternative-in-requires-4 c κs = λ j l. c .before .before .before .before .before .before .before .pre .small _ j l
+
+returns : tie.Need-returns
+returns c = record { count-is = refl; long = refl; row = four (c .before .before .before .before .before .before .before .before .args .alternatives .now) (c .before .before .before .before .before .before .before .before .args .g) (c .before .before .before .before .before .before .alternative-in .ensures) (c .before .before .before .before .alternative-in2 .ensures) (c .before .before .alternative-in3 .ensures) (c .alternative-in4 .ensures) }
 
 pub bound-of-spec : {M : Type 1} → statement M
 bound-of-spec =
     tie.close
     (tie.spec
-    Inv-loop
-    μ-loop
-    loop-holds
     mul-alternative-in
-    add-alternative-in
     mul-alternative-in-2
     element-copy-out-alternative-in
     alternative-in-requires
-    mul-rows
-    array-set-from-rows
-    add-i
-    loop-less
-    loop-again
+    mul-alternative-in-3
+    add-alternative-in
+    mul-alternative-in-4
+    element-copy-out-alternative-in-2
+    alternative-in-requires-2
+    mul-alternative-in-5
+    add-alternative-in-2
+    mul-alternative-in-6
+    element-copy-out-alternative-in-3
+    alternative-in-requires-3
+    mul-alternative-in-7
+    add-alternative-in-3
+    mul-alternative-in-8
+    element-copy-out-alternative-in-4
+    alternative-in-requires-4
     returns)
