@@ -14,6 +14,8 @@ use rules::records::AlternativeRecord;
 use rules::records::Declaration;
 use rules::records::Header;
 
+// 0: the result type; 1: the arity; 2 to 5: the types of the arguments; 6: a constructor's weight, or how many alternatives a function
+// has; 7 and 8: the offset of a function's code, and how many instructions that has.
 fn name_row(d: Declaration, a: u16, b: u16, c: u16) -> [u16; 9]
     ensures { λ r. ⌜ r ≡ nameRow d a b c ⌝ }
 {
@@ -30,6 +32,7 @@ fn name_row(d: Declaration, a: u16, b: u16, c: u16) -> [u16; 9]
     ]
 }
 
+// 0 to 3: the coefficients; 4: the constant.
 fn alternative_row(a: AlternativeRecord) -> [u16; 5]
     ensures { λ r. ⌜ r ≡ alternativeRow a ⌝ }
 {
