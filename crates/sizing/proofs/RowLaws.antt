@@ -44,16 +44,12 @@ module _ {file : List ℕ} {n : ℕ} {ts : Tables} (r : Records file n ts) where
   ---- A function
 
   module _ (g : ℕ) (l : g < byteAt (payload file) 3) where
-    abbrev place : ℕ
-    place = headOffset (payload file) g
-
     pub row-count : getD (getD (ts .functions) g []) 6 0 ≡ byteAt (payload file) (headOffset (payload file) g + 6)
     row-count = ap (λ (x : List ℕ). getD x 6 0) (r .function .row g l)
 
-    pub bound-asks : (count : ℕ) → count ≡ getD (getD (ts .functions) g []) 6 0 → BoundAsks (ts .alternatives) g count
-    bound-asks count e = record {
+    pub bound-asks : BoundAsks (ts .alternatives) g
+    bound-asks = record {
       place = omega (arith, r .few);
-      few = omega (arith, row-count, r .there .function g l .few-alternatives);
       small = r .alternative .small;
     }
 

@@ -28,10 +28,9 @@ tables constructors functions alternatives = record { constructors = constructor
 
 ---- What is looked up
 
--- function g has so many alternatives, and all coefficients are bytes
-pub record BoundAsks (rows : List (List ℕ)) (g count : ℕ) : Type 0 where
+-- function g has its rows in the table, and all coefficients are bytes
+pub record BoundAsks (rows : List (List ℕ)) (g : ℕ) : Type 0 where
   pub place : g < 32
-  pub few : count ≤ 4
   pub small : (i j : ℕ) → j < 4 → getD (getD rows i []) j 0 < 256
 
 pub record BoundOf (rows : List (List ℕ)) (g count : ℕ) (b : Bound) : Type 0 where

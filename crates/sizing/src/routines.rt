@@ -28,7 +28,7 @@ pub struct Maker {
 
 // The size bound of function g, which has so many alternatives. The rows behind them are zeros, and are not counted.
 fn bound_of(alternatives: &[[u16; 5]; 128], g: usize, count: u16) -> Bound
-    requires { ⌜ BoundAsks (now alternatives) g count ⌝ }
+    requires { ⌜ BoundAsks (now alternatives) g ⌝ }
     ensures { λ r. ⌜ BoundOf (now (alternatives .entry)) g count r ⌝ }
 {
     let rows = [

@@ -16,7 +16,7 @@ array-read-bound-of : tie.Need-array-read-bound-of
 array-read-bound-of c = search needs
 
 bound-of-requires : tie.Need-bound-of-requires
-bound-of-requires c κs = bound-asks (c .before .pre .3 .0) (c .before .args .g) (c .before .pre .3 .1) _ refl
+bound-of-requires c κs = bound-asks (c .before .pre .3 .0) (c .before .args .g) (c .before .pre .3 .1)
 
 array-read-t12 : tie.Need-array-read-t12
 array-read-t12 c = search needs
