@@ -1,7 +1,8 @@
 """The programs and calls that are timed, each as a job of mode, program, arguments and table lengths."""
-import struct
+import os, struct, sys
 
-from sheet import ROOTS, RETURN, branch, build, call, constructor, function, load, packed, payload
+sys.path.insert(0, os.path.join(os.path.dirname(os.path.abspath(__file__)), '..', 'model'))
+from programs import ROOTS, RETURN, branch, build, call, constructor, function, load, packed, payload
 
 CHECK, RUN = 1, 2
 ROOM = 64 * 504

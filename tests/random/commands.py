@@ -7,8 +7,8 @@ checked, some are run on arguments of the right types with tables and budgets of
 import os, random, sys
 
 HERE = os.path.dirname(os.path.abspath(__file__))
-sys.path.insert(0, os.path.join(HERE, '..', '..', 'bench'))
-from sheet import MOST_BLOCKS, ROOM, packed
+sys.path.insert(0, os.path.join(HERE, '..', '..', 'model'))
+from programs import MOST_BLOCKS, ROOM, packed
 
 
 def stored_payloads():

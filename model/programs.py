@@ -4,16 +4,21 @@ import struct
 BLOCK, ROOM, MOST_BLOCKS = 512, 504, 64
 
 
-def block(payload, number=0):
-    """One block: number, used count, payload, zeros, check."""
-    body = struct.pack('<HH', number, len(payload)) + payload.ljust(ROOM, b'\0')
+def block(payload, number=0, used=None):
+    """One block: number, used count, payload, zeros, checksum."""
+    body = struct.pack('<HH', number, len(payload) if used is None else used) + payload.ljust(ROOM, b'\0')
     return body + struct.pack('<I', sum(b * (i + 1) for i, b in enumerate(body)))
+
+
+def pieces(payload):
+    """The parts of a payload that go into one block each."""
+    return [payload[k:k + ROOM] for k in range(0, len(payload), ROOM)]
 
 
 def packed(payload):
     """A payload's blocks."""
     assert 0 < len(payload) <= MOST_BLOCKS * ROOM, len(payload)
-    return b''.join(block(payload[k:k + ROOM], k // ROOM) for k in range(0, len(payload), ROOM))
+    return b''.join(block(piece, n) for n, piece in enumerate(pieces(payload)))
 
 
 def constructor(result, arguments=(), weight=None):

@@ -15,7 +15,7 @@ const FRONT: usize = 4;
 const CHECK: usize = FRONT + ROOM;
 
 /// The sum over a block's bytes of byte times place, places from 1.
-fn block_check(block: &[u8]) -> u32 {
+fn checksum(block: &[u8]) -> u32 {
     block[..CHECK]
         .iter()
         .zip(1u32..)
@@ -40,7 +40,7 @@ fn used_right(used: usize, is_last: bool) -> bool {
 /// Verifies one block and gives its used count.
 fn verify_block(block: &[u8], number: usize, is_last: bool) -> Result<usize, Refusal> {
     let stored = u32::from_le_bytes([block[CHECK], block[509], block[510], block[511]]);
-    if block_check(block) != stored {
+    if checksum(block) != stored {
         return Err(Refusal::new(2, number, 0));
     }
     let used = word(&block[2..]);
@@ -94,7 +94,7 @@ fn write_block(number: usize, part: &[u8], block: &mut [u8]) {
     block[..2].copy_from_slice(&(number as u16).to_le_bytes());
     block[2..FRONT].copy_from_slice(&(part.len() as u16).to_le_bytes());
     block[FRONT..FRONT + part.len()].copy_from_slice(part);
-    let check = block_check(block);
+    let check = checksum(block);
     block[CHECK..].copy_from_slice(&check.to_le_bytes());
 }
 
