@@ -1,6 +1,2 @@
-pub mod OpenLaws
-mod BlockLaws
-mod SumLaws
-pub mod PackLaws
-mod RoundLaws
-pub mod Round
+pub mod BlockLaws
+pub mod VerifyLaws

@@ -1,20 +1,20 @@
-// Verifying blocks: the check and the fields of one block, all blocks, the length of their payload.
+// Verifying blocks: the checksum and the fields of one block, all blocks, the length of their payload.
 ghost use mathlib.Core.Path.{_≡_};
 ghost use Prim.Native.Nat.{_≤_};
 ghost use lib.ListN.{length, take, drop};
 ghost use Rattle.rules.specs.Answers.{toldCheck};
 ghost use Rattle.rules.specs.Base.{passed, all, isZero};
-ghost use Rattle.rules.specs.Container.{blockCheck, usedRight, blockRight, verifyBlock, verify};
-ghost use Rattle.rules.specs.Opened.{Opened};
+ghost use Rattle.rules.specs.Container.{checksum, usedRight, blockRight, verifyBlock, verify};
+ghost use Rattle.rules.specs.Established.{Measured};
 use super::reading::long_at;
 use super::reading::word_at;
 use rules::answers::Checked;
 use rules::answers::Reason;
 
-// The check of a block, as it is computed.
-fn block_check(b: &[u8]) -> u32
+// The checksum of a block, as it is computed.
+fn checksum(b: &[u8]) -> u32
     requires { ⌜ 508 ≤ length (now b) ⌝ }
-    ensures { λ r. ⌜ r ≡ blockCheck (now (b .entry)) ⌝ }
+    ensures { λ r. ⌜ r ≡ checksum (now (b .entry)) ⌝ }
 {
     let mut sum: u32 = 0;
     let mut i: usize = 0;
@@ -71,8 +71,8 @@ fn verify_block(b: &[u8], last: bool, k: usize) -> Checked
     requires { ⌜ length (now b) ≡ 512 ⌝ }
     ensures { λ r. ⌜ toldCheck r ≡ verifyBlock last k (now (b .entry)) ⌝ }
 {
-    if long_at(b, 508) != block_check(b) {
-        return Checked::Refused(Reason::BadBlockCheck { block: k });
+    if long_at(b, 508) != checksum(b) {
+        return Checked::Refused(Reason::BadChecksum { block: k });
     }
     if block_right(b, last, k) {
         return Checked::Right;
@@ -81,10 +81,10 @@ fn verify_block(b: &[u8], last: bool, k: usize) -> Checked
 }
 
 // All blocks, one after the other.
-pub fn verify_blocks(program: &[u8]) -> Checked
-    ensures { λ r. ⌜ toldCheck r ≡ verify (now (program .entry)) ⌝ }
+pub fn verify_blocks(file: &[u8]) -> Checked
+    ensures { λ r. ⌜ toldCheck r ≡ verify (now (file .entry)) ⌝ }
 {
-    let len = program.len();
+    let len = file.len();
     if len == 0 {
         return Checked::Refused(Reason::BadLength);
     }
@@ -99,7 +99,7 @@ pub fn verify_blocks(program: &[u8]) -> Checked
     while k < n {
         let at = 512 * k;
         let end = at + 512;
-        let checked = verify_block(&program[at..end], k + 1 == n, k);
+        let checked = verify_block(&file[at..end], k + 1 == n, k);
         match checked {
             Checked::Right => {}
             Checked::Refused(reason) => return Checked::Refused(reason),
@@ -110,10 +110,10 @@ pub fn verify_blocks(program: &[u8]) -> Checked
 }
 
 // The length of the payload of verified blocks: every block but the last is full.
-pub fn payload_length(program: &[u8]) -> usize
-    requires { ⌜ verify (now program) ≡ passed ⌝ }
-    ensures { λ r. ⌜ Opened (now (program .entry)) r ⌝ }
+pub fn payload_length(file: &[u8]) -> usize
+    requires { ⌜ verify (now file) ≡ passed ⌝ }
+    ensures { λ r. ⌜ Measured (now (file .entry)) r ⌝ }
 {
-    let last = program.len() / 512 - 1;
-    504 * last + (word_at(program, 512 * last + 2) as usize)
+    let last = file.len() / 512 - 1;
+    504 * last + (word_at(file, 512 * last + 2) as usize)
 }

@@ -1,12 +1,12 @@
 // The four commands: each reads its words, makes its call and writes one answer line.
-use crate::answers;
-use crate::hex;
-use crate::hex::Decoded;
 use crate::runs;
-use crate::tables;
-use crate::words;
-use crate::words::Number;
-use crate::words::Words;
+use protocol::answers;
+use protocol::hex;
+use protocol::hex::Decoded;
+use protocol::lent;
+use protocol::words;
+use protocol::words::Number;
+use protocol::words::Words;
 
 enum Command {
     Pack,
@@ -39,10 +39,10 @@ fn asked(line: &[u8], words: Words) -> Command {
 
 fn convert(bytes: &[u8], out: &mut [u8], packs: bool) {
     if packs {
-        let answer = blocks::pack(bytes, out);
+        let answer = packing::pack(bytes, out);
         answers::wrote(b"packed ", answer, out);
     } else {
-        let answer = blocks::unpack(bytes, out);
+        let answer = packing::unpack(bytes, out);
         answers::wrote(b"unpacked ", answer, out);
     }
 }
@@ -53,7 +53,7 @@ fn lend_output(bytes: &[u8], length: usize, packs: bool) {
         answers::bad_command();
         return;
     }
-    let mut out = [tables::BYTE; 70000];
+    let mut out = [lent::BYTE; 70000];
     convert(bytes, &mut out[0..length], packs);
 }
 
@@ -70,11 +70,11 @@ fn convert_line(line: &mut [u8], words: Words, packs: bool) {
 }
 
 fn check_line(line: &mut [u8], words: Words) {
-    let Decoded::Bytes(program) = hex::decode(line, words::word(words, 1)) else {
+    let Decoded::Bytes(file) = hex::decode(line, words::word(words, 1)) else {
         answers::bad_command();
         return;
     };
-    answers::checked(verifier::check(words::part(line, program)));
+    answers::checked(verifier::check(words::part(line, file)));
 }
 
 // One command, one answer. The line's bytes are used up.

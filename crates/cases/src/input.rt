@@ -2,9 +2,9 @@
 ghost use Prim.Native.Nat.{_≤_, _<_};
 ghost use lib.ListN.{length};
 ghost use Rattle.cases.specs.Window.{Within};
-use crate::answers;
 use crate::commands;
 use libc::STDIN_FILENO;
+use protocol::answers;
 
 // The bytes from `from` up to `to` are not answered yet, and no line ends before `seen`. Of a line that is too long for the
 // buffer, `cut`, only the last bytes are there.

@@ -1,13 +1,8 @@
 // Answers commands on standard input, one a line, with one line each. The words of commands and answers are the protocol's.
-ghost use Prim.Native.Nat.{_≤_};
 
-mod answers; // answers.rt: the answer lines
 mod commands; // commands.rt: one command
-mod hex; // hex.rt: bytes as digits
 mod input; // input.rt: the lines of standard input
 mod runs; // runs.rt: the command run
-mod tables; // tables.rt: lent tables before and after a call
-mod words; // words.rt: the words of a line
 
 use input::Window;
 

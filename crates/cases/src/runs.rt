@@ -1,12 +1,12 @@
 // The command run: what it asks for, and the tables that it lends.
-use crate::answers;
-use crate::hex;
-use crate::hex::Decoded;
-use crate::tables;
-use crate::words;
-use crate::words::Number;
-use crate::words::Span;
-use crate::words::Words;
+use protocol::answers;
+use protocol::hex;
+use protocol::hex::Decoded;
+use protocol::lent;
+use protocol::words;
+use protocol::words::Number;
+use protocol::words::Span;
+use protocol::words::Words;
 
 // The lengths of the lent tables and output.
 struct Sizes {
@@ -23,7 +23,7 @@ enum Sized {
 
 // A call: where its bytes stand in the line, and its numbers.
 struct Call {
-    program: Span,
+    file: Span,
     entry: u32,
     arguments: Span,
     budget: u32,
@@ -62,14 +62,14 @@ fn read_call(line: &mut [u8], words: Words) -> Called {
     let Number::Of(budget) = words::number_at(line, words, 4) else {
         return Called::Bad;
     };
-    let Decoded::Bytes(program) = hex::decode(line, words::word(words, 1)) else {
+    let Decoded::Bytes(file) = hex::decode(line, words::word(words, 1)) else {
         return Called::Bad;
     };
     let Decoded::Bytes(arguments) = hex::decode(line, words::word(words, 3)) else {
         return Called::Bad;
     };
     Called::With(Call {
-        program: program,
+        file: file,
         entry: entry,
         arguments: arguments,
         budget: budget,
@@ -85,7 +85,7 @@ fn run(
     out: &mut [u8],
 ) {
     let answer = interpreter::run(
-        words::part(line, call.program),
+        words::part(line, call.file),
         call.entry,
         words::part(line, call.arguments),
         call.budget,
@@ -94,7 +94,7 @@ fn run(
         frames,
         out,
     );
-    answers::ran(answer, tables::found(cells, stack, frames), out);
+    answers::ran(answer, lent::found(cells, stack, frames), out);
 }
 
 // A run in the fronts of these tables. False, and nothing is done, where one is too short.
@@ -138,10 +138,10 @@ fn run_in(
 // most calls; 65,535 cells with few frames, which leaves room for a result of 65,535 levels; and the longest.
 
 fn run_small(line: &[u8], call: Call, sizes: Sizes) -> bool {
-    let mut cells = [tables::NUMBER; 4096];
-    let mut stack = [tables::NUMBER; 1024];
-    let mut frames = [tables::NUMBER; 768];
-    let mut out = [tables::BYTE; 4096];
+    let mut cells = [lent::NUMBER; 4096];
+    let mut stack = [lent::NUMBER; 1024];
+    let mut frames = [lent::NUMBER; 768];
+    let mut out = [lent::BYTE; 4096];
     run_in(
         line,
         call,
@@ -154,10 +154,10 @@ fn run_small(line: &[u8], call: Call, sizes: Sizes) -> bool {
 }
 
 fn run_deep(line: &[u8], call: Call, sizes: Sizes) -> bool {
-    let mut cells = [tables::NUMBER; 327680];
-    let mut stack = [tables::NUMBER; 8192];
-    let mut frames = [tables::NUMBER; 12288];
-    let mut out = [tables::BYTE; 70000];
+    let mut cells = [lent::NUMBER; 327680];
+    let mut stack = [lent::NUMBER; 8192];
+    let mut frames = [lent::NUMBER; 12288];
+    let mut out = [lent::BYTE; 70000];
     run_in(
         line,
         call,
@@ -170,10 +170,10 @@ fn run_deep(line: &[u8], call: Call, sizes: Sizes) -> bool {
 }
 
 fn run_large(line: &[u8], call: Call, sizes: Sizes) -> bool {
-    let mut cells = [tables::NUMBER; 700000];
-    let mut stack = [tables::NUMBER; 80000];
-    let mut frames = [tables::NUMBER; 210000];
-    let mut out = [tables::BYTE; 70000];
+    let mut cells = [lent::NUMBER; 700000];
+    let mut stack = [lent::NUMBER; 80000];
+    let mut frames = [lent::NUMBER; 210000];
+    let mut out = [lent::BYTE; 70000];
     run_in(
         line,
         call,

@@ -1,37 +1,33 @@
 -- How a run begins: refused before its start, or loaded, with what soundness says of the start.
-use mathlib.Core.Path.{_≡_, refl, sym, ap, _∙_, subst}
+use mathlib.Core.Path.{_≡_, sym, ap, _∙_}
 use mathlib.Core.List.{List, [], _∷_}
-use mathlib.Core.Option.{Option, none, some}
+use mathlib.Core.Option.{none, some}
 use mathlib.Core.Bool.{true, false}
-use Prim.Native.Nat.{ℕ, zero, suc, _+_, _*_, _-_, _/_, _≤_, _<_, min}
+use Prim.Native.Nat.{ℕ, suc, _+_, _*_, _≤_, _<_}
 use native.Mathlib.Omega.{arith}
-use native.Mathlib.Nat.{zero-add}
-use lib.ListN.{length, getD, drop}
-use lib.Dec.{leb}
+use lib.ListN.{length, getD}
 use borrow.Author.Tests.{le-leb, lt-leb}
 use Rattle.rules.specs.declared.answers.Answer.{Answer}
 use Rattle.rules.specs.declared.answers.Reason.{Reason}
 use Rattle.rules.specs.declared.answers.Ending.the-variants as ends
-use Rattle.rules.specs.Base.{Refusal, refusal, found, refused, passed}
-use Rattle.rules.specs.Lists.{All, l[], _l∷_}
+use Rattle.rules.specs.Base.{refusal, found, refused, passed}
+use Rattle.rules.specs.Lists.{l[], _l∷_, Bytes}
 use Rattle.rules.specs.Program.{Function, Program, function}
-use Rattle.rules.specs.Machine.{Value, State, start, step, after, resultOf}
-use Rattle.rules.specs.Values.{Typed}
-use Rattle.rules.specs.Prefix.{argumentsRight, readBytes, values, written}
+use Rattle.rules.specs.Machine.{Value, State, start, step, resultOf}
+use Rattle.rules.specs.Prefix.{argumentsRight, values}
 use Rattle.rules.specs.Check.{checked}
-use Rattle.rules.specs.Run.{Lent, Tables, usable, Ending, finished, aborted, refusedWith, Outcome, answer, heights, fits, endOf, finishedWith, loaded, continued, delivered, run}
+use Rattle.rules.specs.Run.{Lent, Tables, usable, refusedWith, Outcome, answer, heights, fits, endOf, finishedWith, loaded, continued}
+use Rattle.rules.specs.Run.{delivered, run}
 use Rattle.rules.specs.Memory.{resultInto, begun, tableAfter}
 use Rattle.rules.specs.Answers.{refusalOf}
 use Rattle.rules.specs.Promise.{Lives, given-up, has-result, goes-on}
-use Rattle.rules.specs.Facts.{Bytes}
 use Rattle.rules.proofs.ListLaws.{none-some, all2-length}
-use Rattle.rules.proofs.TriedLaws.{after-required}
 use Rattle.rules.proofs.PrefixLaws.{arguments-typed}
 use Rattle.rules.proofs.RunLaws.{started-refused, started-loaded, deliver-refused, run-refused, run-checked}
 use Rattle.rules.proofs.MemoryLaws.{begun-not-checked, begun-not-loaded, begun-loaded}
 use Rattle.rules.proofs.Promise.{tally-promise}
 use Rattle.rules.proofs.ResultLaws.{result-fact}
-use Rattle.machine.specs.Frames.{Sound}
+use Rattle.machine.specs.Frames.{SoundFrom}
 use Rattle.interpreter.specs.Runs.{lentOf, Runs, Delivers}
 use Rattle.interpreter.proofs.FinishLaws.{said}
 
@@ -41,7 +37,8 @@ bytes-all [] h = l[]
 bytes-all (x ∷ l) h = h 0 l∷ bytes-all l (λ i. h (suc i))
 
 -- as many values as parameters
-pub values-length : (s : Program) (f : Function) (bytes : List ℕ) → argumentsRight s f bytes ≡ passed → length (values s bytes) ≡ length (f .parameters)
+pub values-length : (s : Program) (f : Function) (bytes : List ℕ) → argumentsRight s f bytes ≡ passed
+    → length (values s bytes) ≡ length (f .parameters)
 values-length s f bytes e = all2-length (arguments-typed s f bytes e .1)
 
 ---- Room for the start
@@ -71,36 +68,54 @@ module _ (file : List ℕ) (entry : ℕ) (arguments : List ℕ) (budget : ℕ) (
   abbrev lent : Lent
   lent = lentOf cells stack frames out
 
-  not-begun : (reason : Reason) → run file entry arguments budget lent ≡ answer (refusedWith (refusalOf reason)) 0 → begun file entry arguments lent ≡ false
+  not-begun : (reason : Reason) → run file entry arguments budget lent ≡ answer (refusedWith (refusalOf reason)) 0
+      → begun file entry arguments lent ≡ false
       → Runs file entry arguments budget cells stack frames out cells stack frames out (said (ends.Refused reason) 0)
   unfolding tableAfter resultInto
   not-begun reason e b = record { says = rw e; of-cells = rw b; of-stack = rw b; of-frames = rw b; of-output = rw e }
 
-  pub not-checked : (reason : Reason) → checked file ≡ refused (refusalOf reason) → Runs file entry arguments budget cells stack frames out cells stack frames out (said (ends.Refused reason) 0)
+  pub not-checked : (reason : Reason) → checked file ≡ refused (refusalOf reason)
+      → Runs file entry arguments budget cells stack frames out cells stack frames out (said (ends.Refused reason) 0)
   not-checked reason e = not-begun reason (run-refused file entry arguments budget lent e) (begun-not-checked file entry arguments lent e)
 
   module _ {s : Program} (e : checked file ≡ found s) where
-    pub not-loaded : (reason : Reason) → loaded s (usable lent) entry arguments ≡ refused (refusalOf reason) → Runs file entry arguments budget cells stack frames out cells stack frames out (said (ends.Refused reason) 0)
+    pub not-loaded : (reason : Reason) → loaded s (usable lent) entry arguments ≡ refused (refusalOf reason)
+        → Runs file entry arguments budget cells stack frames out cells stack frames out (said (ends.Refused reason) 0)
     not-loaded reason w =
         not-begun reason
-        (run-checked file entry arguments budget lent e ∙ ap (delivered (length out)) (started-refused s (usable lent) budget entry arguments w) ∙ deliver-refused (length out) 0 (refusalOf reason))
+        (run-checked file entry arguments budget lent e
+        ∙ ap (delivered (length out)) (started-refused s (usable lent) budget entry arguments w)
+        ∙ deliver-refused (length out) 0 (refusalOf reason))
         (begun-not-loaded file entry arguments lent e w)
 
-    pub has-begun : {st : State} {a : Outcome} {cells′ stack′ frames′ out′ : List ℕ} {r : Answer} → loaded s (usable lent) entry arguments ≡ found st → continued s (usable lent) budget 0 st (length arguments) ≡ a → Delivers a out out′ r
-        → cells′ ≡ tableAfter true 0 (5 * usable lent .cells) cells → stack′ ≡ tableAfter true 0 (usable lent .stack) stack → frames′ ≡ tableAfter true 0 (3 * usable lent .frames) frames
+    pub has-begun : {st : State} {a : Outcome} {cells′ stack′ frames′ out′ : List ℕ} {r : Answer}
+        → loaded s (usable lent) entry arguments ≡ found st → continued s (usable lent) budget 0 st (length arguments) ≡ a
+        → Delivers a out out′ r
+        → cells′ ≡ tableAfter true 0 (5 * usable lent .cells) cells → stack′ ≡ tableAfter true 0 (usable lent .stack) stack
+        → frames′ ≡ tableAfter true 0 (3 * usable lent .frames) frames
         → Runs file entry arguments budget cells stack frames out cells′ stack′ frames′ out′ r
     has-begun w c d ec es ef =
-        let whole = run-checked file entry arguments budget lent e ∙ ap (delivered (length out)) (started-loaded s (usable lent) budget entry arguments w ∙ c) in
+        let whole = run-checked file entry arguments budget lent e
+        ∙ ap (delivered (length out)) (started-loaded s (usable lent) budget entry arguments w ∙ c) in
         let b = begun-loaded file entry arguments lent e w in
-        record { says = d .says ∙ rw whole; of-cells = ec ∙ rw b; of-stack = es ∙ rw b; of-frames = ef ∙ rw b; of-output = d .left ∙ rw whole }
+        record {
+          says = d .says ∙ rw whole;
+          of-cells = ec ∙ rw b;
+          of-stack = es ∙ rw b;
+          of-frames = ef ∙ rw b;
+          of-output = d .left ∙ rw whole;
+        }
 
 ---- What soundness says of the start
 
-module _ (file : List ℕ) (s : Program) (small : Bytes file) (e : checked file ≡ found s) (entry : ℕ) (f : Function) (known : function s entry ≡ some f) (bytes : List ℕ) (right : argumentsRight s f bytes ≡ passed) where
-  pub start-sound : Sound s (start entry (values s bytes))
+module _ (file : List ℕ) (s : Program) (small : Bytes file) (e : checked file ≡ found s) (entry : ℕ) (f : Function)
+    (known : function s entry ≡ some f) (bytes : List ℕ) (right : argumentsRight s f bytes ≡ passed) where
+  pub start-sound : SoundFrom s (start entry (values s bytes))
   unfolding endOf
   start-sound = record {
-    safe = λ n reached r none-yet. one reached (tally-promise file s e .states entry f known (values s bytes) (arguments-typed s f bytes right .1) n reached r .lives) none-yet;
+    safe =
+        λ n reached r none-yet. one reached (tally-promise file s e .states entry f known (values s bytes)
+        (arguments-typed s f bytes right .1) n reached r .lives) none-yet;
     bounded = λ n reached v r w. result-fact file s small e entry f known bytes right n reached v r w;
   }
     where

@@ -1,5 +1,4 @@
 -- Demand 3 for the code, from run's contract and the tally promise over the machine.
-use mathlib.Core.Path.{_≡_}
 use Rattle.rules.specs.Run.{run}
 use Rattle.rules.proofs.Promise.{tally-promise}
 use Rattle.interpreter.specs.Runs.{lentOf}

@@ -1,35 +1,33 @@
 -- From what each part of a run ensures to what the next asks, and to the answer.
-use mathlib.Core.Path.{_≡_, refl, sym, ap, _∙_, subst}
+use mathlib.Core.Path.{_≡_, refl, ap, _∙_}
 use mathlib.Core.List.{List, [], _∷_}
 use mathlib.Core.Bool.{true}
-use mathlib.Core.Option.{Option, none, some}
-use Prim.Native.Nat.{ℕ, zero, suc, _+_, _*_, _-_, _/_, _≤_, _<_, min}
+use Prim.Native.Nat.{ℕ, _*_, _-_, _/_, _≤_, _<_, min}
 use native.Mathlib.Omega.{arith}
-use lib.ListN.{length, getD, length-append, length-replicate, length-drop}
+use lib.ListN.{length, length-append, length-replicate, length-drop}
+use Rattle.rules.specs.Records.{programIn}
+use Rattle.rules.specs.Lists.{Bytes}
 use Rattle.rules.specs.declared.answers.Answer.{Answer}
-use Rattle.rules.specs.declared.records.Header.{Header}
-use Rattle.rules.specs.Base.{found, passed}
+use Rattle.rules.specs.Base.{found}
 use Rattle.rules.specs.Program.{Function, Program, function}
 use Rattle.rules.specs.Machine.{State, start}
-use Rattle.rules.specs.Prefix.{argumentsRight, values}
+use Rattle.rules.specs.Prefix.{values}
 use Rattle.rules.specs.Run.{Tables, usable, Outcome, continued, loaded}
 use Rattle.rules.specs.Memory.{tableAfter}
-use Rattle.rules.specs.Facts.{Bytes}
+use Rattle.rules.proofs.CheckLaws.{accepted-checked}
 use Rattle.rules.proofs.RunLaws.{load-begins}
+use Rattle.rules.proofs.ListLaws.{at-less}
 use Rattle.machine.specs.declared.state.Limits.{Limits}
-use Rattle.machine.specs.declared.state.View.{View}
+use Rattle.machine.specs.declared.state.MachineState.{MachineState}
 use Rattle.machine.specs.declared.state.Ended.{Ended}
-use Rattle.machine.specs.declared.state.How.{How}
-use Rattle.machine.specs.declared.state.How.the-variants.{Result, Aborted, OutOfSteps, OutOfFrames, OutOfStack, OutOfCells}
-use Rattle.machine.specs.Indexed.{Indexed, held}
-use Rattle.machine.specs.Stands.{tables, frameOf, LimitsOf, inputs, inputsOf, valueOf}
-use Rattle.machine.specs.Steps.{Kept}
-use Rattle.machine.specs.Frames.{below, stands, Linked, Sound, Standing, Budgeted, Ends, toldEnd, Wiped}
+use Rattle.machine.specs.declared.state.Halt.{Halt}
+use Rattle.machine.specs.declared.state.Halt.the-variants.{Result, Aborted, OutOfSteps, OutOfFrames, OutOfStack, OutOfCells}
+use Rattle.machine.specs.Stands.{LimitsOf, inputs, inputsOf}
+use Rattle.machine.specs.Frames.{waitingBelow, stands, Linked, Standing, Budgeted, EndsAs, toldEnd, Wiped}
 use Rattle.machine.proofs.IndexLaws.{in-range, function-read}
-use Rattle.machine.proofs.ArityLaws.{some-get}
 use Rattle.machine.proofs.LoopLaws.{kept-trans}
 use Rattle.machine.proofs.WipeLaws.{wiped-kept}
-use Rattle.interpreter.specs.Runs.{lentOf, Runs, Callable, Beginning, Loading, Loaded, Delivers}
+use Rattle.interpreter.specs.Runs.{lentOf, Runs, Beginning, Loading, Loaded, Delivers}
 use Rattle.interpreter.proofs.FinishLaws.{continued-steps}
 use Rattle.interpreter.proofs.BeginLaws.{values-length, all-fit, has-begun, start-sound}
 
@@ -37,7 +35,7 @@ table-length : (n : ℕ) (l : List ℕ) → n ≤ length l → length (tableAfte
 unfolding tableAfter
 table-length n l h = simp (length-append, length-replicate, length-drop) (omega arith)
 
-told-steps : (s : Program) (cells : List ℕ) (f i steps : ℕ) (how : How) → toldEnd s cells f i steps how .steps ≡ steps
+told-steps : (s : Program) (cells : List ℕ) (f i steps : ℕ) (halt : Halt) → toldEnd s cells f i steps halt .steps ≡ steps
 told-steps s cells f i steps (Result k) = refl
 told-steps s cells f i steps Aborted = refl
 told-steps s cells f i steps OutOfSteps = refl
@@ -45,9 +43,10 @@ told-steps s cells f i steps OutOfFrames = refl
 told-steps s cells f i steps OutOfStack = refl
 told-steps s cells f i steps OutOfCells = refl
 
-module _ {file index : List ℕ} {m : Limits} {entry arity : ℕ} {arguments : List ℕ} {budget : ℕ} {cells stack frames out : List ℕ} (b : Beginning file index m entry arity arguments budget cells stack frames out) where
+module _ {file index : List ℕ} {m : Limits} {entry arity : ℕ} {arguments : List ℕ} {budget : ℕ} {cells stack frames out : List ℕ}
+    (b : Beginning file index m entry arity arguments budget cells stack frames out) where
   abbrev s : Program
-  s = held file
+  s = programIn file
 
   abbrev f : Function
   f = b .callable .f
@@ -62,7 +61,12 @@ module _ {file index : List ℕ} {m : Limits} {entry arity : ℕ} {arguments : L
   frames-are = ap (λ (t : Tables). t .frames) (b .limited)
 
   limits-right : LimitsOf m cells stack
-  limits-right = record { cell-room = omega (arith, cells-are); few-cells = omega (arith, cells-are); place-room = omega (arith, stack-is); few-places = omega (arith, stack-is) }
+  limits-right = record {
+    cell-room = omega (arith, cells-are);
+    few-cells = omega (arith, cells-are);
+    place-room = omega (arith, stack-is);
+    few-places = omega (arith, stack-is);
+  }
 
   frame-room : 3 * m .frames ≤ length frames
   frame-room = omega (arith, frames-are)
@@ -71,7 +75,7 @@ module _ {file index : List ℕ} {m : Limits} {entry arity : ℕ} {arguments : L
   pub few-inputs : arity ≤ 4
   unfolding inputsOf
   few-inputs =
-      let known : entry < length (s .functions) = some-get (s .functions) entry (b .callable .known) in
+      let known : entry < length (s .functions) = at-less (s .functions) entry (b .callable .known) in
       let n : inputs s entry ≡ length (f .parameters) = ap inputsOf (b .callable .known) in
       omega (arith, function-read file index (b .callable .indexed) entry known .2, n, b .inputs)
 
@@ -92,16 +96,18 @@ module _ {file index : List ℕ} {m : Limits} {entry arity : ℕ} {arguments : L
   begins =
       let n = values-length s f arguments (b .callable .right) in
       load-begins s (usable (lentOf cells stack frames out)) entry arguments f (b .callable .known) (b .callable .right)
-      (all-fit (usable (lentOf cells stack frames out)) entry (values s arguments) (length arguments) (omega (arith, b .frame, frames-are)) (omega (arith, b .slots, b .inputs, n, stack-is)) (omega (arith, b .room, cells-are)))
+      (all-fit (usable (lentOf cells stack frames out)) entry (values s arguments) (length arguments) (omega (arith, b .frame, frames-are))
+      (omega (arith, b .slots, b .inputs, n, stack-is)) (omega (arith, b .room, cells-are)))
 
-  module _ (small : Bytes file) {cells₁ stack₁ : List ℕ} {v : View} (l : Loaded s m arguments entry arity cells stack cells₁ stack₁ v) where
+  module _ (small : Bytes file) {cells₁ stack₁ : List ℕ} {v : MachineState}
+      (l : Loaded s m arguments entry arity cells stack cells₁ stack₁ v) where
     abbrev begin : State
     begin = start entry (values s arguments)
 
     stands-is : stands s cells₁ stack₁ frames v ≡ begin
-    unfolding below
+    unfolding waitingBelow
     stands-is =
-        let d : v .depth ≡ 0 = ap (λ (w : View). w .depth) (l .view) in
+        let d : v .depth ≡ 0 = ap (λ (w : MachineState). w .depth) (l .state) in
         rw d (ap (λ (x : _). x ∷ []) (l .frame))
 
     lent₁ : LimitsOf m cells₁ stack₁
@@ -115,8 +121,8 @@ module _ {file index : List ℕ} {m : Limits} {entry arity : ℕ} {arguments : L
     pub standing : Standing s m cells₁ stack₁ frames v
     unfolding Linked
     standing =
-        let d : v .depth ≡ 0 = ap (λ (w : View). w .depth) (l .view) in
-        let base : v .top .base ≡ 0 = ap (λ (w : View). w .top .base) (l .view) in
+        let d : v .depth ≡ 0 = ap (λ (w : MachineState). w .depth) (l .state) in
+        let base : v .top .base ≡ 0 = ap (λ (w : MachineState). w .top .base) (l .state) in
         record {
           ranged = in-range file index (b .callable .indexed);
           lent = lent₁;
@@ -125,25 +131,37 @@ module _ {file index : List ℕ} {m : Limits} {entry arity : ℕ} {arguments : L
           local = l .local;
           linked = rw (d, base) refl;
           deep = omega (arith, b .frame);
-          sound = rw stands-is (start-sound file s small (b .callable .accepts) entry f (b .callable .known) arguments (b .callable .right));
+          sound =
+              rw stands-is (start-sound file s small (accepted-checked (b .callable .accepted)) entry f (b .callable .known) arguments
+              (b .callable .right));
         }
 
     pub budgeted : Budgeted v budget
-    budgeted = record { within = omega (arith, ap (λ (w : View). w .steps) (l .view)); small = b .few }
+    budgeted = record { within = omega (arith, ap (λ (w : MachineState). w .steps) (l .state)); small = b .few }
 
-    module _ {cells₂ stack₂ frames₂ : List ℕ} {o : Ended} (e : Ends s m budget cells₁ stack₁ frames v cells₂ stack₂ frames₂ o) where
+    module _ {cells₂ stack₂ frames₂ : List ℕ} {o : Ended} (e : EndsAs s m budget cells₁ stack₁ frames v cells₂ stack₂ frames₂ o) where
       -- the run from the start is what drove it
-      answered : continued s (usable (lentOf cells stack frames out)) budget 0 begin (length arguments) ≡ toldEnd s cells₂ (o .function) (o .instruction) (o .steps) (o .how)
+      answered : continued s (usable (lentOf cells stack frames out)) budget 0 begin (length arguments)
+          ≡ toldEnd s cells₂ (o .function) (o .instruction) (o .steps) (o .halt)
       answered =
-          let n : v .steps ≡ 0 = ap (λ (w : View). w .steps) (l .view) in
-          let u : v .top .used ≡ length arguments = ap (λ (w : View). w .top .used) (l .view) in
+          let n : v .steps ≡ 0 = ap (λ (w : MachineState). w .steps) (l .state) in
+          let u : v .top .used ≡ length arguments = ap (λ (w : MachineState). w .top .used) (l .state) in
           let z : budget - 0 ≡ budget = omega arith in
           rw (← b .limited) (rw (n, u, stands-is, z) at (e .answer-is))
 
       pub few-steps : o .steps < 4294967296
-      few-steps = omega (arith, continued-steps s (usable (lentOf cells stack frames out)) budget 0 begin (length arguments), ap (λ (a : Outcome). a .steps) answered, told-steps s cells₂ (o .function) (o .instruction) (o .steps) (o .how), b .few)
+      few-steps =
+          omega (
+            arith,
+            continued-steps s (usable (lentOf cells stack frames out)) budget 0 begin (length arguments),
+            ap (λ (a : Outcome).
+                a .steps) answered,
+            told-steps s cells₂ (o .function) (o .instruction) (o .steps) (o .halt),
+            b .few,
+          )
 
-      pub wiping : (5 * m .cells ≤ length cells₂) × (m .stack ≤ length stack₂) × (3 * m .frames ≤ length frames₂) × (m .cells ≤ 65535) × (m .frames ≤ 65535)
+      pub wiping : (5 * m .cells ≤ length cells₂) × (m .stack ≤ length stack₂) × (3 * m .frames ≤ length frames₂) × (m .cells ≤ 65535)
+          × (m .frames ≤ 65535)
       wiping = (
         omega (arith, lent₁ .cell-room, e .spared .of-cells .len),
         omega (arith, lent₁ .place-room, e .spared .of-stack .len),
@@ -152,16 +170,24 @@ module _ {file index : List ℕ} {m : Limits} {entry arity : ℕ} {arguments : L
         omega (arith, frames-are),
       )
 
-      pub runs : {cells₃ stack₃ frames₃ out′ : List ℕ} {r : Answer} → Delivers (toldEnd s cells₂ (o .function) (o .instruction) (o .steps) (o .how)) out out′ r → Wiped m cells₂ stack₂ frames₂ cells₃ stack₃ frames₃
+      pub runs : {cells₃ stack₃ frames₃ out′ : List ℕ} {r : Answer}
+          → Delivers (toldEnd s cells₂ (o .function) (o .instruction) (o .steps) (o .halt)) out out′ r
+          → Wiped m cells₂ stack₂ frames₂ cells₃ stack₃ frames₃
           → Runs file entry arguments budget cells stack frames out cells₃ stack₃ frames₃ out′ r
       runs d w =
-          has-begun file entry arguments budget cells stack frames out (b .callable .accepts) begins answered d
-          (w .of-cells ∙ wiped-kept (5 * m .cells) cells cells₂ (limits-right .cell-room) (kept-trans 0 0 (5 * m .cells) cells cells₁ cells₂ (omega arith) (l .kept-cells) (e .spared .of-cells)) ∙ ap (λ (k : ℕ). tableAfter true 0 (5 * k) cells) cells-are)
-          (w .of-stack ∙ wiped-kept (m .stack) stack stack₂ (limits-right .place-room) (kept-trans 0 0 (m .stack) stack stack₁ stack₂ (omega arith) (l .kept-stack) (e .spared .of-stack)) ∙ ap (λ (k : ℕ). tableAfter true 0 k stack) stack-is)
-          (w .of-frames ∙ wiped-kept (3 * m .frames) frames frames₂ frame-room (e .spared .of-frames) ∙ ap (λ (k : ℕ). tableAfter true 0 (3 * k) frames) frames-are)
+          has-begun file entry arguments budget cells stack frames out (accepted-checked (b .callable .accepted)) begins answered d
+          (w .of-cells ∙ wiped-kept (5 * m .cells) cells cells₂ (limits-right .cell-room)
+          (kept-trans 0 0 (5 * m .cells) cells cells₁ cells₂ (omega arith) (l .kept-cells) (e .spared .of-cells))
+          ∙ ap (λ (k : ℕ). tableAfter true 0 (5 * k) cells) cells-are)
+          (w .of-stack ∙ wiped-kept (m .stack) stack stack₂ (limits-right .place-room)
+          (kept-trans 0 0 (m .stack) stack stack₁ stack₂ (omega arith) (l .kept-stack) (e .spared .of-stack))
+          ∙ ap (λ (k : ℕ). tableAfter true 0 k stack) stack-is)
+          (w .of-frames ∙ wiped-kept (3 * m .frames) frames frames₂ frame-room (e .spared .of-frames)
+          ∙ ap (λ (k : ℕ). tableAfter true 0 (3 * k) frames) frames-are)
 
       -- wiping keeps the length
-      pub wiped-length : {cells₃ stack₃ frames₃ : List ℕ} → Wiped m cells₂ stack₂ frames₂ cells₃ stack₃ frames₃ → (length cells₃ ≡ length cells) × (length stack₃ ≡ length stack) × (length frames₃ ≡ length frames)
+      pub wiped-length : {cells₃ stack₃ frames₃ : List ℕ} → Wiped m cells₂ stack₂ frames₂ cells₃ stack₃ frames₃
+          → (length cells₃ ≡ length cells) × (length stack₃ ≡ length stack) × (length frames₃ ≡ length frames)
       wiped-length w = (
         ap length (w .of-cells) ∙ table-length (5 * m .cells) cells₂ (wiping .0) ∙ e .spared .of-cells .len ∙ l .kept-cells .len,
         ap length (w .of-stack) ∙ table-length (m .stack) stack₂ (wiping .1) ∙ e .spared .of-stack .len ∙ l .kept-stack .len,

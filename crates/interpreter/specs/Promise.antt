@@ -2,10 +2,9 @@
 use mathlib.Core.Path.{_≡_}
 use mathlib.Core.List.{List}
 use Prim.Native.Nat.{ℕ}
-use lib.ListN.{length}
 use Rattle.rules.specs.declared.answers.Answer.{Answer}
 use Rattle.rules.specs.Base.{found}
-use Rattle.rules.specs.Program.{Function, Program, function}
+use Rattle.rules.specs.Program.{Program}
 use Rattle.rules.specs.Check.{checked}
 use Rattle.rules.specs.Run.{Outcome}
 use Rattle.rules.specs.Memory.{resultInto}
@@ -13,9 +12,10 @@ use Rattle.rules.specs.Answers.{toldRun, measured}
 use Rattle.rules.specs.Promise.{Answers, Promised}
 use Rattle.interpreter.specs.Runs.{lentOf, Runs}
 
--- an answer and an output that run left for an accepted program: they are those of an outcome that the machine's states give, refused before the start,
--- or from typed arguments through safe states, none larger than the entry's size bound, to an end that document 01 names
-pub record RanSafely (file : List ℕ) (s : Program) (entry : ℕ) (arguments : List ℕ) (budget : ℕ) (cells stack frames out out′ : List ℕ) (r : Answer) : Type 0 where
+-- an answer and an output that run left for an accepted program: they are those of an outcome that the machine's states give, refused
+-- before the start, or from typed arguments through safe states, none larger than the entry's size bound, to an end that document 01 names
+pub record RanSafely (file : List ℕ) (s : Program) (entry : ℕ) (arguments : List ℕ) (budget : ℕ) (cells stack frames out out′ : List ℕ)
+    (r : Answer) : Type 0 where
   pub outcome : Outcome
   pub promised : Promised file s
   pub answers : Answers s entry arguments budget (lentOf cells stack frames out) outcome

@@ -1,15 +1,15 @@
 // Before the first step: refusals, what is usable of the tables, the arguments' cells and the first frame.
 ghost use mathlib.Core.Path.{_≡_};
-ghost use mathlib.Core.Option.{some};
 ghost use Prim.Native.Nat.{_+_, _≤_, _/_, min};
 ghost use lib.ListN.{length};
+ghost use Rattle.rules.specs.Records.{programIn};
 ghost use Rattle.rules.specs.declared.answers.Ending.the-variants as ends;
-ghost use Rattle.machine.specs.Indexed.{Indexed, held};
+ghost use Rattle.machine.specs.Indexed.{Indexed};
 ghost use Rattle.machine.specs.Steps.{Copied};
 ghost use Rattle.interpreter.specs.Runs.{Loading, Loaded};
 use machine::Limits;
+use machine::MachineState;
 use machine::Registers;
-use machine::View;
 use rules::answers::Answer;
 use rules::answers::Ending;
 use rules::answers::Reason;
@@ -42,32 +42,33 @@ pub fn limits(cells: usize, stack: usize, frames: usize) -> Limits
     }
 }
 
-// The arguments' cell numbers from the shelf to the stack's bottom.
+// The arguments' pending cell numbers to the stack's bottom.
 fn place_arguments(numbers: &[u16; 256], at: usize, stack: &mut [u16], n: usize)
     requires { ⌜ (at + n ≤ 256) × (n ≤ length (now stack)) ⌝ }
     ensures { λ _. ⌜ Copied (now (numbers .entry)) at 0 n (now (stack .entry)) (now (stack .exit)) ⌝ }
 {
-    machine::spill(numbers, at, stack, 0, n);
+    machine::copy(numbers, at, stack, 0, n);
 }
 
 // The arguments' cells, their values on the stack, and the first frame.
 pub fn load(
-    program: &[u8],
-    index: &[u32; 161],
+    file: &[u8],
+    index: &[u32; 160],
     arguments: &[u8],
     cells: &mut [u16],
     stack: &mut [u16],
     m: Limits,
     entry: usize,
     arity: usize,
-) -> View
-    requires { ⌜ Loading (held (now program)) m (now arguments) (now cells) (now stack) entry arity ⌝ }
-    requires { ⌜ Indexed (now program) (now index) ⌝ }
-    ensures { λ v. ⌜ Loaded (held (now (program .entry))) m (now (arguments .entry)) entry arity (now (cells .entry)) (now (stack .entry)) (now (cells .exit)) (now (stack .exit)) v ⌝ }
+) -> MachineState
+    requires { ⌜ Loading (programIn (now file)) m (now arguments) (now cells) (now stack) entry arity ⌝ }
+    requires { ⌜ Indexed (now file) (now index) ⌝ }
+    ensures { λ v. ⌜ Loaded (programIn (now (file .entry))) m (now (arguments .entry)) entry arity (now (cells .entry)) (now (stack .entry))
+        (now (cells .exit)) (now (stack .exit)) v ⌝ }
 {
-    let shelf = machine::make_arguments(program, index, arguments, cells, m);
-    let at = shelf.at;
-    let numbers = shelf.numbers;
+    let pending = machine::make_arguments(file, index, arguments, cells, m);
+    let at = pending.at;
+    let numbers = pending.numbers;
     place_arguments(&numbers, at, stack, arity);
     let top = Registers {
         function: entry,
@@ -76,7 +77,7 @@ pub fn load(
         top: arity,
         used: arguments.len(),
     };
-    View {
+    MachineState {
         top: top,
         depth: 0,
         steps: 0,

@@ -1,25 +1,18 @@
 -- Arities of constructors and functions that are there.
-use Prim.Native.Nat.{ℕ, zero, suc, _-_, _<_}
+use Prim.Native.Nat.{ℕ, zero, suc, _<_}
 use mathlib.Core.Path.{_≡_, refl}
 use mathlib.Core.List.{List, [], _∷_}
 use mathlib.Core.Option.{some}
-use native.Mathlib.Omega.{arith}
 use native.Mathlib.Nat.{not-suc-le-zero, le-of-suc-le-suc}
 use lib.ListN.{length, getElem?}
 use Rattle.rules.specs.Prefix.{arityOf}
 use Rattle.rules.specs.Program.{Constructor, Function, Program, constructor, function}
 use Rattle.machine.specs.Stands.{arity, inputs, inputsOf}
-use Rattle.machine.proofs.EntryLaws.{no-some}
 
 pub get-some : {A : Type 0} (l : List A) (i : ℕ) → i < length l → (x : A) × (getElem? l i ≡ some x)
 get-some [] i h = absurd (not-suc-le-zero h)
 get-some (x ∷ xs) zero h = (x, refl)
 get-some (x ∷ xs) (suc i) h = get-some xs i (le-of-suc-le-suc h)
-
-pub some-get : {A : Type 0} (l : List A) (i : ℕ) {x : A} → getElem? l i ≡ some x → i < length l
-some-get [] i e = no-some e
-some-get (x ∷ xs) zero e = omega arith
-some-get (x ∷ xs) (suc i) e = let h = some-get xs i e in omega arith
 
 pub arity-is : (s : Program) (c : ℕ) {k : Constructor} → constructor s c ≡ some k → arity s c ≡ length (k .arguments)
 unfolding arityOf

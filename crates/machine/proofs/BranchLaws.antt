@@ -3,30 +3,32 @@ use Prim.Native.Nat.{ℕ, _+_, _-_, _*_, _≤_, _<_}
 use mathlib.Core.Path.{_≡_, refl, sym, ap, ap₂, _∙_, subst}
 use mathlib.Core.List.{List, _∷_, _++_}
 use mathlib.Core.Option.{none, some}
-use mathlib.Core.Logic.{⊎-elim, _⊎_}
+use mathlib.Core.Logic.{⊎-elim}
 use native.Mathlib.Omega.{arith}
 use native.Mathlib.Numerals.{add-one}
 use lib.ListN.{length, getD, length-append}
 use lib.Dec.{eqb}
 use borrow.Author.Tests.{eq-eqb, ne-eqb}
 use Rattle.rules.specs.Base.{if_then_else_}
-use Rattle.rules.specs.Machine.{Value, Frame, State, current, execute, step, returned, onward, at}
+use Rattle.rules.specs.Machine.{Value, Frame, State, current, execute, step, returned, onward, frameAt}
 use Rattle.rules.specs.Program.{Program}
 use Rattle.rules.specs.Run.{cellsTaken}
 use Rattle.rules.specs.Stacks.{split}
 use Rattle.rules.specs.Tree.{made, arguments}
 use Rattle.rules.specs.declared.records.Instruction.the-variants.{Branch}
+use Rattle.rules.proofs.MachineLaws.{bind-some}
 use Rattle.machine.specs.Stands.{entries, con, arity, valueIn, valueOf, frameOf, Local}
-use Rattle.machine.specs.Steps.{Ready, At, Copied, Goes, Refuses}
+use Rattle.machine.specs.Steps.{Ready, StandsAt, Copied, StepsTo, RefusesStep}
 use Rattle.machine.specs.declared.state.Limits.{Limits}
 use Rattle.machine.specs.declared.state.Registers.{Registers}
 use Rattle.machine.proofs.EntryLaws.{lt-or-ge, length-entries, entries-same, entries-append, split-few, split-entries}
 use Rattle.machine.proofs.CellLaws.{value-arguments}
 use Rattle.machine.proofs.ContinueLaws.{exec-branch, current-at, alive-step, step-is}
 use Rattle.machine.proofs.LoadLaws.{kept-refl}
-use Rattle.machine.proofs.StepLaws.{bind-some, refuses-stack, goes}
+use Rattle.machine.proofs.StepLaws.{refuses-stack, goes}
 
-module _ (s : Program) (m : Limits) (cells stack : List ℕ) (r : Registers) (c b : ℕ) (ready : Ready s m cells stack r) (here : At s r (Branch c b)) where
+module _ (s : Program) (m : Limits) (cells stack : List ℕ) (r : Registers) (c b : ℕ) (ready : Ready s m cells stack r)
+    (here : StandsAt s r (Branch c b)) where
   abbrev ok : Local s m cells stack r
   ok = ready .local
 
@@ -61,15 +63,17 @@ module _ (s : Program) (m : Limits) (cells stack : List ℕ) (r : Registers) (c 
 
   next : Frame
   next = if eqb (con cells (getD stack (r .top - 1) 0)) c
-      then onward (frameOf s cells stack r) (entries (valueOf s cells) stack (r .base) (r .top - r .base - 1) ++ arguments (valueOf s cells (getD stack (r .top - 1) 0)))
-      else at b (frameOf s cells stack r) (frameOf s cells stack r .stack)
+      then onward (frameOf s cells stack r)
+      (entries (valueOf s cells) stack (r .base) (r .top - r .base - 1) ++ arguments (valueOf s cells (getD stack (r .top - 1) 0)))
+      else frameAt b (frameOf s cells stack r) (frameOf s cells stack r .stack)
 
   steps : (others : State) → step s (frameOf s cells stack r ∷ others) ≡ some (next ∷ others)
   unfolding next valueIn entries
   steps others =
       let q = split-entries v stack (r .base) h 1 deep in
       let e : r .base + (r .top - r .base - 1) ≡ r .top - 1 = omega (arith, branch-deep) in
-      step-is s fr others cur ∙ exec-branch s fr others c b {v = v (getD stack (r .top - 1) 0)} q (ap (λ (i : ℕ). some (v (getD stack i 0))) e)
+      step-is s fr others cur ∙ exec-branch s fr others c b {v = v (getD stack (r .top - 1) 0)} q (ap (λ (i : ℕ). some (v (getD stack i 0)))
+      e)
 
   none-yet : returned s (Branch c b) (frameOf s cells stack r .stack) ≡ none
   unfolding returned
@@ -84,7 +88,7 @@ module _ (s : Program) (m : Limits) (cells stack : List ℕ) (r : Registers) (c 
     unfolding next
     is₁ = simp (ne-eqb _ _ n)
 
-    pub branch-else : Goes s m cells stack r cells stack t₁
+    pub branch-else : StepsTo s m cells stack r cells stack t₁
     unfolding cellsTaken
     branch-else =
         goes s m cells stack r (Branch c b) cur none-yet next steps cells stack t₁ is₁
@@ -97,19 +101,23 @@ module _ (s : Program) (m : Limits) (cells stack : List ℕ) (r : Registers) (c 
     branch-known = rw y at (ok .made .known k branch-old)
 
     spread : entries (valueOf s cells) stack (r .base) (r .top - r .base - 1) ++ arguments (valueOf s cells (getD stack (r .top - 1) 0))
-        ≡ entries (valueOf s cells) stack (r .base) (r .top - r .base - 1) ++ entries (valueOf s cells) cells (5 * getD stack (r .top - 1) 0 + 1) (arity s c)
+        ≡ entries (valueOf s cells) stack (r .base) (r .top - r .base - 1)
+        ++ entries (valueOf s cells) cells (5 * getD stack (r .top - 1) 0 + 1) (arity s c)
     spread = ap (λ (l : List Value). entries v stack (r .base) (h - 1) ++ l)
         (value-arguments s cells (r .used) (ok .made) k branch-old ∙ ap (λ (x : ℕ). entries v cells (5 * k + 1) (arity s x)) y)
 
     opened : next ≡ onward (frameOf s cells stack r)
-        (entries (valueOf s cells) stack (r .base) (r .top - r .base - 1) ++ entries (valueOf s cells) cells (5 * getD stack (r .top - 1) 0 + 1) (arity s c))
+        (entries (valueOf s cells) stack (r .base) (r .top - r .base - 1)
+        ++ entries (valueOf s cells) cells (5 * getD stack (r .top - 1) 0 + 1) (arity s c))
     unfolding next
     opened = simp (eq-eqb _ _ y) (ap (λ (l : List Value). onward fr l) spread)
 
     height : length (next .stack) ≡ r .top - r .base - 1 + arity s c
-    height = ap (λ (x : Frame). length (x .stack)) opened ∙ simp length-append (ap₂ _+_ (length-entries v stack (r .base) (h - 1)) (length-entries v cells (5 * k + 1) (arity s c)))
+    height =
+        ap (λ (x : Frame). length (x .stack)) opened
+        ∙ simp length-append (ap₂ _+_ (length-entries v stack (r .base) (h - 1)) (length-entries v cells (5 * k + 1) (arity s c)))
 
-    pub branch-full : m .stack < r .top - 1 + arity s c → Refuses s m cells stack r 16
+    pub branch-full : m .stack < r .top - 1 + arity s c → RefusesStep s m cells stack r 16
     branch-full f = refuses-stack s m cells stack r (Branch c b) cur none-yet next steps (omega (arith, height, branch-deep))
 
     abbrev t₂ : Registers
@@ -124,10 +132,13 @@ module _ (s : Program) (m : Limits) (cells stack : List ℕ) (r : Registers) (c 
           let e′ : r .top - 1 + n - r .base ≡ r .top - r .base - 1 + n = omega (arith, branch-deep) in
           let q : entries v stack (r .base) (h - 1) ++ entries v cells (5 * k + 1) n ≡ entries v stack′ (r .base) (h - 1 + n) =
           ap₂ (λ (x y : List Value). x ++ y)
-          (entries-same v v stack stack′ (r .base) (r .base) (h - 1) (λ j l. ap v (sym (p .low (r .base + j) (omega (arith, branch-deep))))))
-          (entries-same v v cells stack′ (5 * k + 1) (r .base + (h - 1)) n (λ j l. ap v (sym (ap (λ (i : ℕ). getD stack′ (i + j) 0) e ∙ p .put j l))))
+          (entries-same v v stack stack′ (r .base) (r .base) (h - 1)
+          (λ j l. ap v (sym (p .low (r .base + j) (omega (arith, branch-deep))))))
+          (entries-same v v cells stack′ (5 * k + 1) (r .base + (h - 1)) n
+          (λ j l. ap v (sym (ap (λ (i : ℕ). getD stack′ (i + j) 0) e ∙ p .put j l))))
           ∙ sym (entries-append v stack′ (r .base) (h - 1) n) in
-          opened ∙ ap₂ (λ (i : ℕ) (l : List Value). record { function = r .function; instruction = i; stack = l }) (sym (add-one (r .instruction)))
+          opened ∙ ap₂ (λ (i : ℕ) (l : List Value). record { function = r .function; instruction = i; stack = l })
+          (sym (add-one (r .instruction)))
           (q ∙ ap (entries v stack′ (r .base)) (sym e′))
 
       young : (j : ℕ) → r .top - 1 ≤ j → j < r .top - 1 + arity s c → getD stack′ j 0 < r .used
@@ -150,19 +161,25 @@ module _ (s : Program) (m : Limits) (cells stack : List ℕ) (r : Registers) (c 
         taken = ok .taken;
       }
 
-      pub branch-goes : Goes s m cells stack r cells stack′ t₂
+      branch-goes : StepsTo s m cells stack r cells stack′ t₂
       unfolding cellsTaken
       branch-goes =
-          goes s m cells stack r (Branch c b) cur none-yet next steps cells stack′ t₂ is₂ local refl refl (omega arith) (kept-refl _ _ cells)
+          goes s m cells stack r (Branch c b) cur none-yet next steps cells stack′ t₂ is₂ local refl refl (omega arith)
+          (kept-refl _ _ cells)
           (record { len = p .len; low = λ i l. p .low i (omega (arith, branch-deep)); high = λ i l. p .high i (omega arith) })
 
   -- in the code's words
   pub branch-read : (k′ x : ℕ) → k′ ≡ getD stack (r .top - 1) 0 → x ≡ getD cells (5 * k′) 0 → x ≡ con cells (getD stack (r .top - 1) 0)
   branch-read k′ x ek ex = ex ∙ ap (λ (i : ℕ). getD cells (5 * i) 0) ek
 
-  pub branch-done : (k′ n : ℕ) → k′ ≡ getD stack (r .top - 1) 0 → n ≡ arity s c → con cells (getD stack (r .top - 1) 0) ≡ c → (stack′ : List ℕ)
+  pub branch-done : (k′ n : ℕ) → k′ ≡ getD stack (r .top - 1) 0 → n ≡ arity s c → con cells (getD stack (r .top - 1) 0) ≡ c
+      → (stack′ : List ℕ)
       → Copied cells (5 * k′ + 1) (r .top - 1) n stack stack′ → r .top - 1 + n ≤ m .stack
-      → Goes s m cells stack r cells stack′ (record { function = r .function; instruction = r .instruction + 1; base = r .base; top = r .top - 1 + n; used = r .used })
+      → StepsTo s m cells stack r cells stack′
+      (record { function = r .function; instruction = r .instruction + 1; base = r .base; top = r .top - 1 + n; used = r .used })
   branch-done k′ n ek en y stack′ p room =
-      subst (λ (x : ℕ). Goes s m cells stack r cells stack′ (record { function = r .function; instruction = r .instruction + 1; base = r .base; top = r .top - 1 + x; used = r .used })) (sym en)
-      (branch-goes y stack′ (subst (λ (x : ℕ). Copied cells (5 * x + 1) (r .top - 1) (arity s c) stack stack′) ek (subst (λ (x : ℕ). Copied cells (5 * k′ + 1) (r .top - 1) x stack stack′) en p)) (rw en at room))
+      subst (λ (x : ℕ). StepsTo s m cells stack r cells stack′
+      (record { function = r .function; instruction = r .instruction + 1; base = r .base; top = r .top - 1 + x; used = r .used }))
+      (sym en)
+      (branch-goes y stack′ (subst (λ (x : ℕ). Copied cells (5 * x + 1) (r .top - 1) (arity s c) stack stack′) ek
+      (subst (λ (x : ℕ). Copied cells (5 * k′ + 1) (r .top - 1) x stack stack′) en p)) (rw en at room))

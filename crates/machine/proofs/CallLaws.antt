@@ -3,7 +3,7 @@ use Prim.Native.Nat.{ℕ, suc, _+_, _-_, _≤_, _<_}
 use mathlib.Core.Path.{_≡_, refl, sym, ap, ap₂, _∙_, subst}
 use mathlib.Core.List.{List, _∷_}
 use mathlib.Core.Option.{Option, none, some}
-use mathlib.Core.Logic.{⊎-elim, _⊎_}
+use mathlib.Core.Logic.{⊎-elim}
 use native.Mathlib.Omega.{arith}
 use native.Mathlib.Nat.{add-zero}
 use lib.ListN.{length, getD}
@@ -14,22 +14,24 @@ use Rattle.rules.specs.Run.{heights, cellsTaken, endOf, continued, answer, refu
 use Rattle.rules.specs.Stacks.{split}
 use Rattle.rules.specs.declared.records.Instruction.{Instruction}
 use Rattle.rules.specs.declared.records.Instruction.the-variants.{Call}
-use Rattle.machine.specs.Frames.{below, stands, Linked, Standing, answers, Leads, FramePut, Calls}
+use Rattle.rules.proofs.ListLaws.{at-less}
+use Rattle.rules.proofs.MachineLaws.{bind-some}
+use Rattle.machine.specs.Frames.{waitingBelow, stands, Linked, Standing, answers, LeadsTo, FramePut, Calls}
 use Rattle.machine.specs.Stands.{place, entries, inputs, valueOf, tables, frameOf, Local}
 use Rattle.machine.specs.Steps.{Copied}
 use Rattle.machine.specs.declared.state.Limits.{Limits}
 use Rattle.machine.specs.declared.state.Registers.{Registers}
-use Rattle.machine.specs.declared.state.View.{View}
+use Rattle.machine.specs.declared.state.MachineState.{MachineState}
 use Rattle.machine.specs.declared.state.Waiting.{Waiting}
 use Rattle.machine.proofs.EntryLaws.{lt-or-ge, length-entries, entries-same, split-few, split-entries}
 use Rattle.machine.proofs.ContinueLaws.{exec-call, current-at, alive-step, step-is, not-ended, continue-frames, continue-stack}
-use Rattle.machine.proofs.ArityLaws.{some-get, inputs-is}
-use Rattle.machine.proofs.StepLaws.{bind-some}
+use Rattle.machine.proofs.ArityLaws.{inputs-is}
 use Rattle.machine.proofs.LoadLaws.{kept-refl}
 use Rattle.machine.proofs.FrameLaws.{below-same, below-table, linked-table}
-use Rattle.machine.proofs.TurnLaws.{alive-now, stands-length, stands-heights, leads-step}
+use Rattle.machine.proofs.TransitionLaws.{alive-now, stands-length, stands-heights, leads-step}
 
-module _ (s : Program) (m : Limits) (cells stack frames : List ℕ) (v : View) (g budget : ℕ) (ok : Standing s m cells stack frames v) (call : Calls s v g budget) where
+module _ (s : Program) (m : Limits) (cells stack frames : List ℕ) (v : MachineState) (g budget : ℕ) (ok : Standing s m cells stack frames v)
+    (call : Calls s v g budget) where
   abbrev r : Registers
   r = v .top
 
@@ -46,7 +48,7 @@ module _ (s : Program) (m : Limits) (cells stack frames : List ℕ) (v : View) (
   fr = frameOf s cells stack (v .top)
 
   abbrev others : State
-  others = below (valueOf s cells) stack frames (v .depth) (v .top .base)
+  others = waitingBelow (valueOf s cells) stack frames (v .depth) (v .top .base)
 
   cur : current s fr ≡ some (Call g)
   cur = sym (current-at s fr) ∙ call .is
@@ -63,7 +65,7 @@ module _ (s : Program) (m : Limits) (cells stack frames : List ℕ) (v : View) (
   is-inputs = inputs-is s g (shape .1)
 
   pub call-known : g < length (s .functions)
-  call-known = some-get (s .functions) g (shape .1)
+  call-known = at-less (s .functions) g (shape .1)
 
   pub call-deep : r .base + n ≤ r .top
   call-deep = omega (arith, shape .2, is-inputs, ok .local .bottom)
@@ -75,7 +77,8 @@ module _ (s : Program) (m : Limits) (cells stack frames : List ℕ) (v : View) (
   unfolding new
   steps =
       let q = split-entries val stack (r .base) h n (omega (arith, call-deep)) in
-      let q′ : split (length (shape .0 .parameters)) (entries val stack (r .base) h) ≡ some (entries val stack (r .base) (h - n), entries val stack (r .base + (h - n)) n) =
+      let q′ : split (length (shape .0 .parameters)) (entries val stack (r .base) h)
+      ≡ some (entries val stack (r .base) (h - n), entries val stack (r .base + (h - n)) n) =
       ap (λ (x : ℕ). split x (entries val stack (r .base) h)) (sym is-inputs) ∙ q in
       step-is s fr others cur ∙ exec-call s fr others g (shape .1) q′
 
@@ -97,15 +100,19 @@ module _ (s : Program) (m : Limits) (cells stack frames : List ℕ) (v : View) (
   left : budget - v .steps ≡ suc (budget - v .steps - 1)
   left = omega (arith, call .left)
 
-  pub call-frames : m .frames ≤ v .depth + 1 → answers s m budget cells stack frames v ≡ answer (refusedWith (refusal 17 (r .function) (r .instruction))) (v .steps)
+  pub call-frames : m .frames ≤ v .depth + 1
+      → answers s m budget cells stack frames v ≡ answer (refusedWith (refusal 17 (r .function) (r .instruction))) (v .steps)
   call-frames f =
       ap (λ (k : ℕ). continued s (tables m) k (v .steps) (fr ∷ others) (r .used)) left
-      ∙ continue-frames s (tables m) fr others (new ∷ fr ∷ others) (r .used) (r .used) ends steps used (budget - v .steps - 1) (v .steps) (omega (arith, tall))
+      ∙ continue-frames s (tables m) fr others (new ∷ fr ∷ others) (r .used) (r .used) ends steps used (budget - v .steps - 1) (v .steps)
+      (omega (arith, tall))
 
-  pub call-stack : v .depth + 1 < m .frames → m .stack < r .top + n → answers s m budget cells stack frames v ≡ answer (refusedWith (refusal 16 (r .function) (r .instruction))) (v .steps)
+  pub call-stack : v .depth + 1 < m .frames → m .stack < r .top + n
+      → answers s m budget cells stack frames v ≡ answer (refusedWith (refusal 16 (r .function) (r .instruction))) (v .steps)
   call-stack f f′ =
       ap (λ (k : ℕ). continued s (tables m) k (v .steps) (fr ∷ others) (r .used)) left
-      ∙ continue-stack s (tables m) fr others (new ∷ fr ∷ others) (r .used) (r .used) ends steps used (budget - v .steps - 1) (v .steps) (omega (arith, tall)) (omega (arith, high))
+      ∙ continue-stack s (tables m) fr others (new ∷ fr ∷ others) (r .used) (r .used) ends steps used (budget - v .steps - 1) (v .steps)
+      (omega (arith, tall)) (omega (arith, high))
 
   abbrev w : Waiting
   w = record { function = r .function; instruction = r .instruction; height = r .top - r .base }
@@ -113,26 +120,32 @@ module _ (s : Program) (m : Limits) (cells stack frames : List ℕ) (v : View) (
   abbrev t : Registers
   t = record { function = g; instruction = 1; base = r .top; top = r .top + n; used = r .used }
 
-  abbrev v′ : View
+  abbrev v′ : MachineState
   v′ = record { top = t; depth = v .depth + 1; steps = v .steps + 1 }
 
   module _ (stack′ frames′ : List ℕ) (p : Copied stack (r .top - n) (r .top) n stack stack′) (q : FramePut (v .depth) w frames frames′)
       (deep : v .depth + 1 < m .frames) (room : r .top + n ≤ m .stack) where
     -- the frame that waits, and those below it, are as they were
-    waits : below val stack′ frames′ (v .depth + 1) (r .top) ≡ fr ∷ others
-    unfolding below
+    waits : waitingBelow val stack′ frames′ (v .depth + 1) (r .top) ≡ fr ∷ others
+    unfolding waitingBelow
     waits =
         let e : r .top - h ≡ r .base = omega (arith, ok .local .bottom) in
-        let a : below val stack′ frames′ (suc (v .depth)) (r .top) ≡ record { function = r .function; instruction = r .instruction; stack = entries val stack′ (r .top - h) h } ∷ below val stack′ frames′ (v .depth) (r .top - h) =
-        ap (λ (x : Waiting). record { function = x .function; instruction = x .instruction; stack = entries val stack′ (r .top - x .height) (x .height) } ∷ below val stack′ frames′ (v .depth) (r .top - x .height)) (q .is) in
+        let a : waitingBelow val stack′ frames′ (suc (v .depth)) (r .top)
+        ≡ record { function = r .function; instruction = r .instruction; stack = entries val stack′ (r .top - h) h } ∷ waitingBelow val
+        stack′ frames′ (v .depth) (r .top - h) =
+        ap (λ (x : Waiting).
+        record { function = x .function; instruction = x .instruction; stack = entries val stack′ (r .top - x .height) (x .height) } ∷
+        waitingBelow val stack′ frames′ (v .depth) (r .top - x .height)) (q .is) in
         let b : entries val stack′ (r .base) h ≡ entries val stack (r .base) h =
         entries-same val val stack′ stack (r .base) (r .base) h (λ j l. ap val (p .low (r .base + j) (omega (arith, ok .local .bottom)))) in
-        let c : below val stack′ frames′ (v .depth) (r .base) ≡ others =
+        let c : waitingBelow val stack′ frames′ (v .depth) (r .base) ≡ others =
         below-table val stack′ frames frames′ (v .depth) (r .base) (q .low)
-        ∙ below-same s val val stack′ stack frames (v .depth) (r .base) (r .function) (ok .linked) (λ j l. ap val (p .low j (omega (arith, ok .local .bottom)))) in
+        ∙ below-same s val val stack′ stack frames (v .depth) (r .base) (r .function) (ok .linked)
+        (λ j l. ap val (p .low j (omega (arith, ok .local .bottom)))) in
         let e₀ : v .depth + 1 ≡ suc (v .depth) = omega arith in
-        ap (λ (k : ℕ). below val stack′ frames′ k (r .top)) e₀ ∙ a
-        ∙ ap (λ (k : ℕ). record { function = r .function; instruction = r .instruction; stack = entries val stack′ k h } ∷ below val stack′ frames′ (v .depth) k) e
+        ap (λ (k : ℕ). waitingBelow val stack′ frames′ k (r .top)) e₀ ∙ a
+        ∙ ap (λ (k : ℕ). record { function = r .function; instruction = r .instruction; stack = entries val stack′ k h } ∷ waitingBelow val
+        stack′ frames′ (v .depth) k) e
         ∙ ap₂ (λ (x : List Value) (y : State). record { function = r .function; instruction = r .instruction; stack = x } ∷ y) b c
 
     is-new : new ≡ frameOf s cells stack′ t
@@ -141,7 +154,8 @@ module _ (s : Program) (m : Limits) (cells stack frames : List ℕ) (v : View) (
         let e : r .top + n - r .top ≡ n = omega arith in
         let f : r .base + (h - n) ≡ r .top - n = omega (arith, call-deep) in
         ap (λ (l : List Value). record { function = g; instruction = 1; stack = l })
-        (entries-same val val stack stack′ (r .base + (h - n)) (r .top) n (λ j l. ap val (ap (λ (i : ℕ). getD stack (i + j) 0) f ∙ sym (p .put j l))) ∙ ap (entries val stack′ (r .top)) (sym e))
+        (entries-same val val stack stack′ (r .base + (h - n)) (r .top) n
+        (λ j l. ap val (ap (λ (i : ℕ). getD stack (i + j) 0) f ∙ sym (p .put j l))) ∙ ap (entries val stack′ (r .top)) (sym e))
 
     next : step s (stands s cells stack frames v) ≡ some (stands s cells stack′ frames′ v′)
     next = steps ∙ ap₂ (λ (x : Frame) (y : State). some (x ∷ y)) is-new (sym waits)
@@ -167,13 +181,16 @@ module _ (s : Program) (m : Limits) (cells stack frames : List ℕ) (v : View) (
     linked =
         let e : r .top - h ≡ r .base = omega (arith, ok .local .bottom) in
         let k : suc (v .depth) ≡ v .depth + 1 = omega arith in
-        let below-it : Linked s frames′ (v .depth) (r .top - h) (r .function) = rw e (linked-table s frames frames′ (v .depth) (r .base) (r .function) (q .low) (ok .linked)) in
+        let below-it : Linked s frames′ (v .depth) (r .top - h) (r .function) =
+        rw e (linked-table s frames frames′ (v .depth) (r .base) (r .function) (q .low) (ok .linked)) in
         let all : Linked s frames′ (suc (v .depth)) (r .top) g =
-        subst (λ (x : Waiting). (x .height ≤ r .top) × (n ≤ x .height) × (g < length (s .functions)) × (current s (place (x .function) (x .instruction)) ≡ some (Call g)) × Linked s frames′ (v .depth) (r .top - x .height) (x .function)) (sym (q .is))
+        subst (λ (x : Waiting). (x .height ≤ r .top) × (n ≤ x .height) × (g < length (s .functions))
+        × (current s (place (x .function) (x .instruction)) ≡ some (Call g))
+        × Linked s frames′ (v .depth) (r .top - x .height) (x .function)) (sym (q .is))
         (omega arith, omega (arith, call-deep), call-known, call .is, below-it) in
         subst (λ (x : ℕ). Linked s frames′ x (r .top) g) k all
 
-    pub call-goes : Leads s m budget cells stack frames v cells stack′ frames′ v′ × (v .steps < v .steps + 1)
+    call-goes : LeadsTo s m budget cells stack frames v cells stack′ frames′ v′ × (v .steps < v .steps + 1)
     call-goes =
         leads-step s m budget cells stack frames v ok (call .left) cells stack′ frames′ v′ ends next used refl local linked deep
         (record {
@@ -186,11 +203,21 @@ module _ (s : Program) (m : Limits) (cells stack frames : List ℕ) (v : View) (
   call-small = ok .ranged .at (r .function) (r .instruction) (Call g) (call .is)
 
   -- in the code's words
-  pub call-done : (n′ : ℕ) → n′ ≡ inputs s g → (stack′ frames′ : List ℕ) → Copied stack (v .top .top - n′) (v .top .top) n′ stack stack′ → FramePut (v .depth) w frames frames′
+  pub call-done : (n′ : ℕ) → n′ ≡ inputs s g → (stack′ frames′ : List ℕ) → Copied stack (v .top .top - n′) (v .top .top) n′ stack stack′
+      → FramePut (v .depth) w frames frames′
       → v .depth + 1 < m .frames → v .top .top + n′ ≤ m .stack
-      → Leads s m budget cells stack frames v cells stack′ frames′ (record { top = record { function = g; instruction = 1; base = v .top .top; top = v .top .top + n′; used = v .top .used }; depth = v .depth + 1; steps = v .steps + 1 })
+      → LeadsTo s m budget cells stack frames v cells stack′ frames′ (record {
+        top = record { function = g; instruction = 1; base = v .top .top; top = v .top .top + n′; used = v .top .used };
+        depth = v .depth + 1;
+        steps = v .steps + 1;
+      })
       × (v .steps < v .steps + 1)
   call-done n′ e stack′ frames′ =
-      subst (λ (x : ℕ). Copied stack (v .top .top - x) (v .top .top) x stack stack′ → FramePut (v .depth) w frames frames′ → v .depth + 1 < m .frames → v .top .top + x ≤ m .stack
-      → Leads s m budget cells stack frames v cells stack′ frames′ (record { top = record { function = g; instruction = 1; base = v .top .top; top = v .top .top + x; used = v .top .used }; depth = v .depth + 1; steps = v .steps + 1 })
+      subst (λ (x : ℕ). Copied stack (v .top .top - x) (v .top .top) x stack stack′ → FramePut (v .depth) w frames frames′
+      → v .depth + 1 < m .frames → v .top .top + x ≤ m .stack
+      → LeadsTo s m budget cells stack frames v cells stack′ frames′ (record {
+        top = record { function = g; instruction = 1; base = v .top .top; top = v .top .top + x; used = v .top .used };
+        depth = v .depth + 1;
+        steps = v .steps + 1;
+      })
       × (v .steps < v .steps + 1)) (sym e) (call-goes stack′ frames′)

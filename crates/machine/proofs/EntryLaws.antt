@@ -2,7 +2,7 @@
 use Prim.Native.Nat.{ℕ, zero, suc, _+_, _-_, _*_, _≤_, _<_}
 use mathlib.Core.Path.{_≡_, refl, sym, ap, ap₂, _∙_, subst}
 use mathlib.Core.List.{List, [], _∷_, _++_}
-use mathlib.Core.Option.{none, some}
+use mathlib.Core.Option.{some}
 use mathlib.Core.Bool.{Bool, true, false}
 use native.Mathlib.Omega.{arith}
 use native.Mathlib.Nat.{add-zero, add-suc, suc-add, eq-or-lt-of-le}
@@ -13,12 +13,10 @@ use lib.Dec.{leb, ltb}
 use borrow.Author.Tests.{ltb-true, ltb-false, leb-true, le-leb}
 use Rattle.rules.specs.Machine.{Value, top}
 use Rattle.rules.specs.Stacks.{split, slot}
+use Rattle.rules.proofs.ListLaws.{none-some}
 use Rattle.machine.specs.Frames.{FramePut}
 use Rattle.machine.specs.Stands.{entries}
-use Rattle.machine.specs.Steps.{Copied, Cleared, Placed}
-
-pub no-some : {A : Type 0} {x : A} {P : Type 0} → none ≡ some x → P
-no-some e = let z : _≡_ {A = ℕ} 0 1 = cc in absurd (omega arith)
+use Rattle.machine.specs.Steps.{Copied, Cleared, CellPut}
 
 pub lt-or-ge : (a b : ℕ) → (a < b) ⊎ (b ≤ a)
 lt-or-ge a b = go (ltb a b) refl
@@ -32,7 +30,8 @@ unfolding entries
 length-entries v l a zero = refl
 length-entries v l a (suc n) = ap suc (length-entries v l (suc a) n)
 
-pub entries-same : (v w : ℕ → Value) (l l′ : List ℕ) (a b n : ℕ) → ((j : ℕ) → j < n → v (getD l (a + j) 0) ≡ w (getD l′ (b + j) 0)) → entries v l a n ≡ entries w l′ b n
+pub entries-same : (v w : ℕ → Value) (l l′ : List ℕ) (a b n : ℕ) → ((j : ℕ) → j < n → v (getD l (a + j) 0) ≡ w (getD l′ (b + j) 0))
+    → entries v l a n ≡ entries w l′ b n
 unfolding entries
 entries-same v w l l′ a b zero h = refl
 entries-same v w l l′ a b (suc n) h =
@@ -53,9 +52,10 @@ pub entries-end : (v : ℕ → Value) (l : List ℕ) (a n : ℕ) → entries v l
 unfolding entries
 entries-end v l a n = entries-append v l a n 1
 
-pub entries-get : (v : ℕ → Value) (l : List ℕ) (a n k : ℕ) {x : Value} → getElem? (entries v l a n) k ≡ some x → (k < n) × (x ≡ v (getD l (a + k) 0))
+entries-get : (v : ℕ → Value) (l : List ℕ) (a n k : ℕ) {x : Value} → getElem? (entries v l a n) k ≡ some x → (k < n)
+    × (x ≡ v (getD l (a + k) 0))
 unfolding entries
-entries-get v l a zero k e = no-some e
+entries-get v l a zero k e = none-some e
 entries-get v l a (suc n) zero {x} e = (omega arith, rw add-zero (cc))
 entries-get v l a (suc n) (suc k) e =
     let ih = entries-get v l (suc a) n k e in
@@ -63,8 +63,9 @@ entries-get v l a (suc n) (suc k) e =
     (omega (arith, ih .0), rw d (ih .1))
 
 -- slot a of the entries
-pub entries-slot : (v : ℕ → Value) (l : List ℕ) (at n a : ℕ) {x : Value} → slot a (entries v l at n) ≡ some x → (0 < a) × (a ≤ n) × (x ≡ v (getD l (at + a - 1) 0))
-entries-slot v l at n zero e = no-some e
+pub entries-slot : (v : ℕ → Value) (l : List ℕ) (at n a : ℕ) {x : Value} → slot a (entries v l at n) ≡ some x → (0 < a) × (a ≤ n)
+    × (x ≡ v (getD l (at + a - 1) 0))
+entries-slot v l at n zero e = none-some e
 entries-slot v l at n (suc a) e =
     let h = entries-get v l at n a e in
     let d : at + suc a - 1 ≡ at + a = omega arith in
@@ -76,9 +77,10 @@ split-few v l a n k {p} e = go (leb k (length (entries v l a n))) refl
   where
     go : (t : Bool) → leb k (length (entries v l a n)) ≡ t → k ≤ n
     go true h = omega (arith, leb-true k (length (entries v l a n)) h, length-entries v l a n)
-    go false h = no-some (rw h at e)
+    go false h = none-some (rw h at e)
 
-pub split-entries : (v : ℕ → Value) (l : List ℕ) (a n k : ℕ) → k ≤ n → split k (entries v l a n) ≡ some (entries v l a (n - k), entries v l (a + (n - k)) k)
+pub split-entries : (v : ℕ → Value) (l : List ℕ) (a n k : ℕ) → k ≤ n
+    → split k (entries v l a n) ≡ some (entries v l a (n - k), entries v l (a + (n - k)) k)
 unfolding split
 split-entries v l a n k h =
     let len = length-entries v l a n in
@@ -114,7 +116,8 @@ copied-more from at to n out out′ room c = record {
 pub cleared-none : (at : ℕ) (out : List ℕ) → Cleared at 0 out out
 cleared-none at out = record { len = refl; put = λ j h. absurd (omega arith); low = λ i h. refl; high = λ i h. refl }
 
-pub cleared-more : (at n : ℕ) (out out′ : List ℕ) → at + n < length out → Cleared at n out out′ → Cleared at (n + 1) out (set out′ (at + n) 0)
+pub cleared-more : (at n : ℕ) (out out′ : List ℕ) → at + n < length out → Cleared at n out out′
+    → Cleared at (n + 1) out (set out′ (at + n) 0)
 cleared-more at n out out′ room c = record {
   len = length-set out′ (at + n) 0 ∙ c .len;
   put = λ j h. let b : j ≤ n = omega arith in ⊎-elim
@@ -127,7 +130,8 @@ cleared-more at n out out′ room c = record {
 
 -- a constructor, its arguments, and zeros: a cell
 pub placed : (used c n : ℕ) (stack : List ℕ) (from : ℕ) (out o₁ o₂ : List ℕ) → 5 * used + 5 ≤ length out → n ≤ 4
-    → Copied stack from (5 * used + 1) n (set out (5 * used) c) o₁ → Cleared (5 * used + 1 + n) (4 - n) o₁ o₂ → Placed used c n stack from out o₂
+    → Copied stack from (5 * used + 1) n (set out (5 * used) c) o₁ → Cleared (5 * used + 1 + n) (4 - n) o₁ o₂
+    → CellPut used c n stack from out o₂
 placed used c n stack from out o₁ o₂ room few p q = record {
   len = q .len ∙ p .len ∙ length-set out (5 * used) c;
   con = q .low (5 * used) (omega arith) ∙ p .low (5 * used) (omega arith) ∙ getD-set-same out (5 * used) c 0 (omega arith);
@@ -140,7 +144,8 @@ placed used c n stack from out o₁ o₂ room few p q = record {
 pub copied-again : (at to n : ℕ) (out out′ : List ℕ) → at + n < to → to + n < length out → Copied out at to n out out′
     → Copied out at to (n + 1) out (set out′ (to + n) (getD out′ (at + n) 0))
 copied-again at to n out out′ a room c =
-    subst (λ (x : ℕ). Copied out at to (n + 1) out (set out′ (to + n) x)) (sym (c .low (at + n) a)) (copied-more out at to n out out′ room c)
+    subst (λ (x : ℕ). Copied out at to (n + 1) out (set out′ (to + n) x)) (sym (c .low (at + n) a))
+    (copied-more out at to n out out′ room c)
 
 ---- Three numbers to a frame
 
@@ -161,9 +166,12 @@ module _ (k f i h : ℕ) (l : List ℕ) (room : 3 * k + 3 ≤ length l) where
   frame-put = record {
     len = length-set l₂ (3 * k + 2) h ∙ length-set l₁ (3 * k + 1) i ∙ length-set l (3 * k) f;
     is =
-        let a : getD l₃ (3 * k) 0 ≡ f = getD-set-other l₂ (3 * k + 2) (3 * k) h 0 (λ x. omega arith) ∙ getD-set-other l₁ (3 * k + 1) (3 * k) i 0 (λ x. omega arith) ∙ getD-set-same l (3 * k) f 0 (omega arith) in
-        let b : getD l₃ (3 * k + 1) 0 ≡ i = getD-set-other l₂ (3 * k + 2) (3 * k + 1) h 0 (λ x. omega arith) ∙ getD-set-same l₁ (3 * k + 1) i 0 (omega (arith, length-set l (3 * k) f)) in
-        let c : getD l₃ (3 * k + 2) 0 ≡ h = getD-set-same l₂ (3 * k + 2) h 0 (omega (arith, length-set l (3 * k) f, length-set l₁ (3 * k + 1) i)) in
+        let a : getD l₃ (3 * k) 0 ≡ f = getD-set-other l₂ (3 * k + 2) (3 * k) h 0 (λ x. omega arith)
+        ∙ getD-set-other l₁ (3 * k + 1) (3 * k) i 0 (λ x. omega arith) ∙ getD-set-same l (3 * k) f 0 (omega arith) in
+        let b : getD l₃ (3 * k + 1) 0 ≡ i = getD-set-other l₂ (3 * k + 2) (3 * k + 1) h 0 (λ x. omega arith)
+        ∙ getD-set-same l₁ (3 * k + 1) i 0 (omega (arith, length-set l (3 * k) f)) in
+        let c : getD l₃ (3 * k + 2) 0 ≡ h =
+        getD-set-same l₂ (3 * k + 2) h 0 (omega (arith, length-set l (3 * k) f, length-set l₁ (3 * k + 1) i)) in
         cc;
     low = λ j m. other j (λ x. omega arith) (λ x. omega arith) (λ x. omega arith);
     high = λ j m. other j (λ x. omega arith) (λ x. omega arith) (λ x. omega arith);

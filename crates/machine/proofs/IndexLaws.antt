@@ -1,5 +1,5 @@
 -- What the index says of the program that a file holds.
-use Prim.Native.Nat.{ℕ, zero, suc, _+_, _-_, _*_, _≤_, _<_}
+use Prim.Native.Nat.{ℕ, zero, suc, _+_, _-_, _≤_, _<_}
 use mathlib.Core.Path.{_≡_, refl, sym, ap, _∙_, subst}
 use mathlib.Core.List.{List}
 use mathlib.Core.Option.{Option, none, some}
@@ -13,30 +13,31 @@ use Rattle.rules.specs.declared.records.Instruction.{Instruction}
 use Rattle.rules.specs.Base.{byteAt, wordAt, numbered, within}
 use Rattle.rules.specs.Container.{payload}
 use Rattle.rules.specs.Program.{Constructor, Function, constructor, function}
-use Rattle.rules.specs.Records.{constructorOf, functionOf, instructionOf, programOf, constructorAt, instructionAt, headerRight, constructorOffset, headOffset, codeOffset, instructionOffset}
-use Rattle.rules.specs.Opened.{RecordsThere}
+use Rattle.rules.specs.Records.{constructorOf, functionOf, instructionOf, programOf, constructorAt, instructionAt, headerRight}
+use Rattle.rules.specs.Records.{constructorOffset, headOffset, codeOffset, instructionOffset, programIn}
+use Rattle.rules.specs.There.{RecordsThere}
 use Rattle.rules.specs.Stacks.{slot}
 use Rattle.rules.specs.Machine.{current}
 use Rattle.rules.specs.Prefix.{arityOf}
-use Rattle.rules.proofs.ListLaws.{some-inj, and-left, and-right}
+use Rattle.rules.proofs.ListLaws.{some-inj, and-left, and-right, none-some, at-less}
 use Rattle.rules.proofs.NumberedLaws.{numbered-length, numbered-at}
 use Rattle.rules.proofs.RecordLaws.{arguments-length, records-there}
-use Rattle.machine.specs.Indexed.{held, Indexed, InstructionThere}
-use Rattle.machine.specs.Stands.{arity, inputs, place, InRange}
-use Rattle.machine.proofs.EntryLaws.{no-some}
-use Rattle.machine.proofs.ArityLaws.{arity-is, inputs-is, some-get}
-use Rattle.machine.proofs.StepLaws.{bind-some}
+use Rattle.rules.proofs.MachineLaws.{bind-some}
+use Rattle.machine.specs.Indexed.{Indexed, InstructionThere}
+use Rattle.machine.specs.Stands.{arity, inputs, place, NumbersInRange}
+use Rattle.machine.proofs.ArityLaws.{arity-is, inputs-is}
 
 module _ (bytes : List ℕ) where
-  pub constructor-count : length (programOf bytes .constructors) ≡ byteAt bytes 2
+  constructor-count : length (programOf bytes .constructors) ≡ byteAt bytes 2
   unfolding programOf
   constructor-count = numbered-length _ (byteAt bytes 2) 0
 
-  pub function-count : length (programOf bytes .functions) ≡ byteAt bytes 3
+  function-count : length (programOf bytes .functions) ≡ byteAt bytes 3
   unfolding programOf
   function-count = numbered-length _ (byteAt bytes 3) 0
 
-  pub constructor-is : (c : ℕ) → c < byteAt bytes 2 → constructor (programOf bytes) c ≡ some (constructorOf (constructorAt bytes (constructorOffset c)))
+  pub constructor-is : (c : ℕ) → c < byteAt bytes 2
+      → constructor (programOf bytes) c ≡ some (constructorOf (constructorAt bytes (constructorOffset c)))
   unfolding programOf
   constructor-is c h = rw zero-add at (numbered-at (λ k. constructorOf (constructorAt bytes (constructorOffset k))) (byteAt bytes 2) 0 c h)
 
@@ -49,43 +50,49 @@ module _ (bytes : List ℕ) where
     unfolding headerRight
     few =
         let first : Bool = eqb (byteAt bytes 0) 1 && within 1 32 (byteAt bytes 1) in
-        let c = and-right first (within 1 64 (byteAt bytes 2)) (and-left (first && within 1 64 (byteAt bytes 2)) (within 1 32 (byteAt bytes 3)) (there .header-right)) in
-        let f = and-right (first && within 1 64 (byteAt bytes 2)) (within 1 32 (byteAt bytes 3)) (there .header-right) in
-        (leb-true (byteAt bytes 2) 64 (and-right (leb 1 (byteAt bytes 2)) (leb (byteAt bytes 2) 64) c), leb-true (byteAt bytes 3) 32 (and-right (leb 1 (byteAt bytes 3)) (leb (byteAt bytes 3) 32) f))
+        let c = and-right first (within 1 64 (byteAt bytes 2))
+        (and-left (first && within 1 64 (byteAt bytes 2)) (within 1 32 (byteAt bytes 3)) (there .header-right)) in
+        let f = and-right (first && within 1 64 (byteAt bytes 2)) (within 1 32 (byteAt bytes 3)) (there .header-right) in (
+          leb-true (byteAt bytes 2) 64 (and-right (leb 1 (byteAt bytes 2)) (leb (byteAt bytes 2) 64) c),
+          leb-true (byteAt bytes
+              3) 32 (and-right (leb 1 (byteAt bytes 3)) (leb (byteAt bytes 3) 32) f),
+        )
 
-    pub held-arity : (c : ℕ) → c < byteAt bytes 2 → (arity (programOf bytes) c ≡ byteAt bytes (constructorOffset c + 1)) × (c < 64) × (byteAt bytes (constructorOffset c + 1) ≤ 4)
+    pub held-arity : (c : ℕ) → c < byteAt bytes 2 → (arity (programOf bytes) c ≡ byteAt bytes (constructorOffset c + 1)) × (c < 64)
+        × (byteAt bytes (constructorOffset c + 1) ≤ 4)
     unfolding constructorOf
     held-arity c h =
         let most = there .constructor c h .1 in
         (arity-is (programOf bytes) c (constructor-is c h) ∙ arguments-length bytes (constructorOffset c) most, omega (arith, few .0), most)
 
-    pub held-inputs : (f : ℕ) → f < byteAt bytes 3 → (inputs (programOf bytes) f ≡ byteAt bytes (headOffset bytes f + 1)) × (f < 32) × (byteAt bytes (headOffset bytes f + 1) ≤ 4)
+    held-inputs : (f : ℕ) → f < byteAt bytes 3 → (inputs (programOf bytes) f ≡ byteAt bytes (headOffset bytes f + 1)) × (f < 32)
+        × (byteAt bytes (headOffset bytes f + 1) ≤ 4)
     unfolding functionOf
     held-inputs f h =
         let most = there .function f h .arity in
         (inputs-is (programOf bytes) f (function-is f h) ∙ arguments-length bytes (headOffset bytes f) most, omega (arith, few .1), most)
 
     -- where an instruction stands: function, number and record
-    pub record Placed (f i : ℕ) (ins : Instruction) : Type 0 where
+    record CodePlaced (f i : ℕ) (ins : Instruction) : Type 0 where
       pub function : f < byteAt bytes 3
       pub first : 0 < i
       pub last : i - 1 < wordAt bytes (headOffset bytes f + 8)
       pub is : ins ≡ instructionOf (instructionAt bytes (instructionOffset (codeOffset bytes (headOffset bytes f)) (i - 1)))
 
-    pub placed : (f i : ℕ) (ins : Instruction) → current (programOf bytes) (place f i) ≡ some ins → Placed f i ins
+    placed : (f i : ℕ) (ins : Instruction) → current (programOf bytes) (place f i) ≡ some ins → CodePlaced f i ins
     unfolding current functionOf
     placed f i ins e =
         let a = bind-some (function (programOf bytes) f) _ e in
-        let h : f < byteAt bytes 3 = omega (arith, some-get (programOf bytes .functions) f (a .1), function-count) in
+        let h : f < byteAt bytes 3 = omega (arith, at-less (programOf bytes .functions) f (a .1), function-count) in
         let same : a .0 ≡ functionOf bytes (headOffset bytes f) = some-inj (sym (a .1) ∙ function-is f h) in
         go i h (subst (λ (k : Function). slot i (k .code) ≡ some ins) same (a .2))
       where
-        go : (j : ℕ) → f < byteAt bytes 3 → slot j (functionOf bytes (headOffset bytes f) .code) ≡ some ins → Placed f j ins
-        go zero h q = no-some q
+        go : (j : ℕ) → f < byteAt bytes 3 → slot j (functionOf bytes (headOffset bytes f) .code) ≡ some ins → CodePlaced f j ins
+        go zero h q = none-some q
         go (suc j) h q =
             let head = headOffset bytes f in
             let code : ℕ → Instruction = λ k. instructionOf (instructionAt bytes (instructionOffset (codeOffset bytes head) k)) in
-            let l = some-get (numbered code 0 (wordAt bytes (head + 8))) j q in
+            let l = at-less (numbered code 0 (wordAt bytes (head + 8))) j q in
             let n = numbered-length code (wordAt bytes (head + 8)) 0 in
             let m : j < wordAt bytes (head + 8) = omega (arith, l, n) in
             let w = numbered-at code (wordAt bytes (head + 8)) 0 j m in
@@ -97,10 +104,10 @@ module _ (bytes : List ℕ) where
               is = rw e₁ (some-inj (sym q ∙ w) ∙ ap code (zero-add j));
             }
 
-pub in-range : (file index : List ℕ) → Indexed file index → InRange (held file)
+pub in-range : (file index : List ℕ) → Indexed file index → NumbersInRange (programIn file)
 unfolding arityOf
 in-range file index ok = record {
-  few = λ c. go c (constructor (held file) c) refl;
+  few = λ c. go c (constructor (programIn file) c) refl;
   at = λ f i ins e.
       let p = placed bytes there f i ins e in
       (held-inputs bytes there f (p .function) .1, omega (arith, p .first, p .last, there .function f (p .function) .short-code));
@@ -110,26 +117,28 @@ in-range file index ok = record {
     bytes = payload file
 
     there : RecordsThere (payload file)
-    there = records-there (payload file) (ok .right)
+    there = records-there (payload file) (ok .parsed .records)
 
-    go : (c : ℕ) (o : Option Constructor) → constructor (held file) c ≡ o → arity (held file) c ≤ 4
+    go : (c : ℕ) (o : Option Constructor) → constructor (programIn file) c ≡ o → arity (programIn file) c ≤ 4
     go c none e = rw e (omega arith)
     go c (some k) e =
-        let h : c < byteAt (payload file) 2 = omega (arith, some-get (held file .constructors) c e, constructor-count (payload file)) in
+        let h : c < byteAt (payload file) 2 = omega (arith, at-less (programIn file .constructors) c e, constructor-count (payload file)) in
         let a = held-arity (payload file) there c h in
         omega (arith, a .0, a .2)
 
 module _ (file index : List ℕ) (ok : Indexed file index) where
   there : RecordsThere (payload file)
-  there = records-there (payload file) (ok .right)
+  there = records-there (payload file) (ok .parsed .records)
 
-  pub constructor-read : (c : ℕ) → c < length (held file .constructors) → (c < 64) × (getD index c 0 ≡ arity (held file) c) × (arity (held file) c ≤ 4)
+  pub constructor-read : (c : ℕ) → c < length (programIn file .constructors) → (c < 64) × (getD index c 0 ≡ arity (programIn file) c)
+      × (arity (programIn file) c ≤ 4)
   constructor-read c h =
       let h′ : c < byteAt (payload file) 2 = omega (arith, constructor-count (payload file)) in
       let a = held-arity (payload file) there c h′ in
       (a .1, ok .constructor c h′ ∙ sym (a .0), omega (arith, a .0, a .2))
 
-  pub function-read : (f : ℕ) → f < length (held file .functions) → (f < 32) × (getD index (64 + f) 0 ≡ inputs (held file) f) × (inputs (held file) f ≤ 4)
+  pub function-read : (f : ℕ) → f < length (programIn file .functions) → (f < 32) × (getD index (64 + f) 0 ≡ inputs (programIn file) f)
+      × (inputs (programIn file) f ≤ 4)
   function-read f h =
       let h′ : f < byteAt (payload file) 3 = omega (arith, function-count (payload file)) in
       let a = held-inputs (payload file) there f h′ in
@@ -140,10 +149,11 @@ module _ (file index : List ℕ) (ok : Indexed file index) where
     pub function : f < 32
     pub first : 0 < i
     pub last : i ≤ 256
-    pub record-there : InstructionThere (payload file) (getD index (96 + f) 0 + 4 * (i - 1))
-    pub is : current (held file) (place f i) ≡ some (instructionOf (instructionAt (payload file) (getD index (96 + f) 0 + 4 * (i - 1))))
+    pub record-there : InstructionThere (payload file) (instructionOffset (getD index (96 + f) 0) (i - 1))
+    pub is : current (programIn file) (place f i)
+        ≡ some (instructionOf (instructionAt (payload file) (instructionOffset (getD index (96 + f) 0) (i - 1))))
 
-  pub instruction-read : (f i : ℕ) (ins : Instruction) → current (held file) (place f i) ≡ some ins → Fetched f i
+  pub instruction-read : (f i : ℕ) (ins : Instruction) → current (programIn file) (place f i) ≡ some ins → Fetched f i
   instruction-read f i ins e =
       let p = placed (payload file) there f i ins e in
       let head = headOffset (payload file) f in

@@ -8,7 +8,7 @@ pub mod BuildLaws
 pub mod BranchLaws
 pub mod LoopLaws
 pub mod FrameLaws
-pub mod TurnLaws
+pub mod TransitionLaws
 pub mod CallLaws
 pub mod ReturnLaws
 pub mod AdvanceLaws

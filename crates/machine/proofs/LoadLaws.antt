@@ -3,7 +3,7 @@ use Prim.Native.Nat.{ℕ, _+_, _-_, _≤_, _<_}
 use mathlib.Core.Path.{_≡_, refl, sym, ap, ap₂, _∙_}
 use mathlib.Core.List.{List, _∷_}
 use mathlib.Core.Option.{none, some}
-use mathlib.Core.Logic.{⊎-elim, _⊎_}
+use mathlib.Core.Logic.{⊎-elim}
 use native.Mathlib.Omega.{arith}
 use native.Mathlib.Numerals.{add-one}
 use native.Mathlib.Nat.{eq-or-lt-of-le}
@@ -14,18 +14,20 @@ use Rattle.rules.specs.Program.{Program}
 use Rattle.rules.specs.Run.{cellsTaken}
 use Rattle.rules.specs.Stacks.{push, slot}
 use Rattle.rules.specs.declared.records.Instruction.the-variants.{Load}
+use Rattle.rules.proofs.MachineLaws.{bind-some}
 use Rattle.machine.specs.Stands.{entries, valueOf, frameOf, Local}
-use Rattle.machine.specs.Steps.{Ready, At, Kept, Goes, Refuses}
+use Rattle.machine.specs.Steps.{Ready, StandsAt, KeptOutside, StepsTo, RefusesStep}
 use Rattle.machine.specs.declared.state.Limits.{Limits}
 use Rattle.machine.specs.declared.state.Registers.{Registers}
 use Rattle.machine.proofs.EntryLaws.{length-entries, entries-slot}
 use Rattle.machine.proofs.ContinueLaws.{current-at, alive-step, step-is}
-use Rattle.machine.proofs.StepLaws.{bind-some, push-entries, refuses-stack, goes}
+use Rattle.machine.proofs.StepLaws.{push-entries, refuses-stack, goes}
 
-pub kept-refl : (a b : ℕ) (l : List ℕ) → Kept a b l l
+pub kept-refl : (a b : ℕ) (l : List ℕ) → KeptOutside a b l l
 kept-refl a b l = record { len = refl; low = λ i h. refl; high = λ i h. refl }
 
-module _ (s : Program) (m : Limits) (cells stack : List ℕ) (r : Registers) (a : ℕ) (ready : Ready s m cells stack r) (at : At s r (Load a)) where
+module _ (s : Program) (m : Limits) (cells stack : List ℕ) (r : Registers) (a : ℕ) (ready : Ready s m cells stack r)
+    (at : StandsAt s r (Load a)) where
   abbrev ok : Local s m cells stack r
   ok = ready .local
 
@@ -48,14 +50,13 @@ module _ (s : Program) (m : Limits) (cells stack : List ℕ) (r : Registers) (a 
   pub load-slot : (0 < a) × (r .base + a ≤ r .top)
   load-slot = let e = entries-slot v stack (r .base) h a (found-slot .1) in (e .0, omega (arith, e .1, ok .bottom))
 
-  number : ℕ
-  number = getD stack (r .base + a - 1) 0
-
   value : slot a (entries (valueOf s cells) stack (r .base) (r .top - r .base)) ≡ some (valueOf s cells (getD stack (r .base + a - 1) 0))
   value = found-slot .1 ∙ ap some (entries-slot v stack (r .base) h a (found-slot .1) .2)
 
   next : Frame
-  next = onward (frameOf s cells stack r) (push (entries (valueOf s cells) stack (r .base) (r .top - r .base)) (valueOf s cells (getD stack (r .base + a - 1) 0)))
+  next =
+      onward (frameOf s cells stack r) (push (entries (valueOf s cells) stack (r .base) (r .top - r .base))
+      (valueOf s cells (getD stack (r .base + a - 1) 0)))
 
   steps : (others : State) → step s (frameOf s cells stack r ∷ others) ≡ some (next ∷ others)
   unfolding execute next
@@ -69,7 +70,7 @@ module _ (s : Program) (m : Limits) (cells stack : List ℕ) (r : Registers) (a 
   unfolding next
   height = simp length-append (omega (arith, length-entries v stack (r .base) h))
 
-  pub load-full : m .stack ≤ r .top → Refuses s m cells stack r 16
+  pub load-full : m .stack ≤ r .top → RefusesStep s m cells stack r 16
   load-full f = refuses-stack s m cells stack r (Load a) cur none-yet next steps (omega (arith, height, ok .bottom))
 
   abbrev stack′ : List ℕ
@@ -90,8 +91,10 @@ module _ (s : Program) (m : Limits) (cells stack : List ℕ) (r : Registers) (a 
     is =
         let d′ : r .top + 1 - r .base ≡ r .top - r .base + 1 = omega (arith, ok .bottom) in
         let e : r .base + (r .top - r .base) ≡ r .top = omega (arith, ok .bottom) in
-        let p = push-entries v v stack stack′ (r .base) h (v (getD stack (r .base + a - 1) 0)) (λ j l. ap v (sym (other (r .base + j) (λ x. omega arith)))) (ap v (rw e (sym there))) in
-        ap₂ (λ (i : ℕ) (l : List Value). record { function = r .function; instruction = i; stack = l }) (sym (add-one (r .instruction))) (p ∙ ap (entries v stack′ (r .base)) (sym d′))
+        let p = push-entries v v stack stack′ (r .base) h (v (getD stack (r .base + a - 1) 0))
+        (λ j l. ap v (sym (other (r .base + j) (λ x. omega arith)))) (ap v (rw e (sym there))) in
+        ap₂ (λ (i : ℕ) (l : List Value). record { function = r .function; instruction = i; stack = l }) (sym (add-one (r .instruction)))
+        (p ∙ ap (entries v stack′ (r .base)) (sym d′))
 
     local : Local s m cells stack′ t
     local = record {
@@ -105,8 +108,12 @@ module _ (s : Program) (m : Limits) (cells stack : List ℕ) (r : Registers) (a 
       taken = ok .taken;
     }
 
-    pub load-goes : Goes s m cells stack r cells stack′ t
+    pub load-goes : StepsTo s m cells stack r cells stack′ t
     unfolding cellsTaken
     load-goes =
         goes s m cells stack r (Load a) cur none-yet next steps cells stack′ t is local refl refl (omega arith) (kept-refl _ _ cells)
-        (record { len = length-set stack (r .top) _; low = λ i l. other i (λ x. omega (arith, ok .bottom)); high = λ i l. other i (λ x. omega arith) })
+        (record {
+          len = length-set stack (r .top) _;
+          low = λ i l. other i (λ x. omega (arith, ok .bottom));
+          high = λ i l. other i (λ x. omega arith);
+        })

@@ -1,5 +1,5 @@
 -- Laws of the argument check: what each byte leaves to be read, and what is left of the whole check.
-use Prim.Native.Nat.{ℕ, _+_, _-_, _*_, _≤_, _<_}
+use Prim.Native.Nat.{ℕ, _+_, _-_, _≤_, _<_}
 use mathlib.Core.Path.{_≡_, sym, ap, _∙_, subst}
 use mathlib.Core.List.{List, [], _∷_, _++_, append-assoc, append-nil}
 use mathlib.Core.Option.{none, some}
@@ -13,29 +13,32 @@ use Rattle.rules.specs.Base.{refusal, found, refused, Check, passed, byteAt}
 use Rattle.rules.specs.Container.{payload}
 use Rattle.rules.specs.Program.{Constructor, Program, constructor}
 use Rattle.rules.specs.Records.{declarationAt, constructorAt, constructorOf, constructorOffset, functionOf, programOf, argumentsOf}
-use Rattle.rules.specs.Opened.{Opened, RecordsThere}
+use Rattle.rules.specs.Records.{programIn}
+use Rattle.rules.specs.There.{RecordsThere}
+use Rattle.rules.specs.Established.{Parsed}
 use Rattle.rules.specs.Prefix.{readByte, readBytes, argumentsRight}
 use Rattle.rules.proofs.NumberedLaws.{numbered-past}
 use Rattle.rules.proofs.RecordLaws.{arguments-length, records-there}
 use Rattle.machine.specs.declared.reading.Read.{Read}
 use Rattle.machine.specs.declared.reading.Read.the-variants.{At, Bad}
-use Rattle.machine.specs.Indexed.{held, Indexed}
 use Rattle.machine.specs.Reading.{HeadThere, Inside, ReadsByte}
 use Rattle.machine.proofs.IndexLaws.{constructor-is, held-arity}
 use Rattle.machine.proofs.ResultLaws.{sets-append}
 
 ---- Putting types
 
-pub put-more : (l : List ℕ) (at : ℕ) (xs : List ℕ) (j : ℕ) (l′ : List ℕ) → j < length xs → l′ ≡ sets l at (take j xs) → set l′ (at + j) (getD xs j 0) ≡ sets l at (take (j + 1) xs)
+pub put-more : (l : List ℕ) (at : ℕ) (xs : List ℕ) (j : ℕ) (l′ : List ℕ) → j < length xs → l′ ≡ sets l at (take j xs)
+    → set l′ (at + j) (getD xs j 0) ≡ sets l at (take (j + 1) xs)
 put-more l at xs j l′ h e =
     let n : length (take j xs) ≡ j = length-take j xs ∙ omega arith in
     let t : take (j + 1) xs ≡ take j xs ++ (getD xs j 0 ∷ []) = rw add-one (take-suc xs j 0 h) in
     sym (ap (sets l at) t ∙ sets-append l at (take j xs) (getD xs j 0 ∷ []) ∙ rw (n, ← e))
 
-pub drop-put : (l : List ℕ) (at : ℕ) (vs : List ℕ) → at + length vs ≤ length l → drop at (sets l at vs) ≡ vs ++ drop (at + length vs) l
+drop-put : (l : List ℕ) (at : ℕ) (vs : List ℕ) → at + length vs ≤ length l → drop at (sets l at vs) ≡ vs ++ drop (at + length vs) l
 drop-put l at vs h =
     let n : length (take at l) ≡ at = length-take at l ∙ omega arith in
-    ap (drop at) (sets-eq vs l at h) ∙ subst (λ (k : ℕ). drop k (take at l ++ vs ++ drop (at + length vs) l) ≡ vs ++ drop (at + length vs) l) n (rw append-assoc (drop-append-seam (take at l) (vs ++ drop (at + length vs) l)))
+    ap (drop at) (sets-eq vs l at h) ∙ subst (λ (k : ℕ). drop k (take at l ++ vs ++ drop (at + length vs) l) ≡ vs
+    ++ drop (at + length vs) l) n (rw append-assoc (drop-append-seam (take at l) (vs ++ drop (at + length vs) l)))
 
 ---- One byte
 
@@ -63,58 +66,69 @@ module _ (s : Program) (c at : ℕ) (types : List ℕ) (long : length types ≡ 
       pub read-many : k .result ≡ getD types at 0 → at + 1 < length (k .arguments) → ReadsByte s c at types types Bad
       unfolding readByte
       read-many q h = record {
-        says = λ o. rw (next, e) (simp (eq-eqb (k .result) (getD types at 0) q, lt-leb (length (k .arguments ++ drop (at + 1) types)) 256 (omega (arith, room))));
+        says =
+            λ o. rw (next, e) (simp (
+              eq-eqb (k .result) (getD types at 0) q,
+              lt-leb
+                  (length (k .arguments ++ drop (at + 1) types)) 256 (omega (arith, room)),
+            ));
         inside = tt;
         long = long;
       }
 
-      pub read-right : k .result ≡ getD types at 0 → length (k .arguments) ≤ at + 1
+      read-right : k .result ≡ getD types at 0 → length (k .arguments) ≤ at + 1
           → ReadsByte s c at types (sets types (at + 1 - length (k .arguments)) (k .arguments)) (At (at + 1 - length (k .arguments)))
       unfolding readByte
       read-right q h = record {
         says = λ o.
             let b : at + 1 - length (k .arguments) + length (k .arguments) ≡ at + 1 = omega arith in
             let d = rw b at (drop-put types (at + 1 - length (k .arguments)) (k .arguments) (omega arith)) in
-            rw (next, e) (simp (eq-eqb (k .result) (getD types at 0) q, le-leb (length (k .arguments ++ drop (at + 1) types)) 256 (omega (arith, room))) (ap found d));
+            rw (next, e) (simp (
+              eq-eqb (k .result) (getD types at 0) q,
+              le-leb (length (k .arguments ++ drop (at + 1) types)) 256
+                  (omega (arith, room)),
+            ) (ap found d));
         inside = omega arith;
         long = length-sets types (at + 1 - length (k .arguments)) (k .arguments) ∙ long;
       }
 
 -- in the code's words
-module _ (file index : List ℕ) (ok : Indexed file index) where
+module _ {file : List ℕ} (parsed : Parsed file) where
   there : RecordsThere (payload file)
-  there = records-there (payload file) (ok .right)
+  there = records-there (payload file) (parsed .records)
 
-  -- so many bytes from an offset on are there
-  pub reads : (n : ℕ) → n ≡ getD index 160 0 → Opened file n
-  reads n e = rw e (ok .opened)
-
-  pub header-there : (n : ℕ) → n ≡ getD index 160 0 → 4 ≤ n
-  header-there n e = omega (arith, ok .opened .long, there .header)
+  pub header-there : 4 ≤ length (payload file)
+  header-there = there .header
 
   module _ (c known : ℕ) (ek : known ≡ byteAt (payload file) 2) where
-    pub byte-unknown : known ≤ c → constructor (held file) c ≡ none
+    pub byte-unknown : known ≤ c → constructor (programIn file) c ≡ none
     unfolding programOf
-    byte-unknown h = numbered-past (λ k. constructorOf (constructorAt (payload file) (constructorOffset k))) (byteAt (payload file) 2) 0 c (omega arith)
+    byte-unknown h =
+        numbered-past (λ k. constructorOf (constructorAt (payload file) (constructorOffset k))) (byteAt (payload file) 2) 0 c (omega arith)
 
-    pub declaration-there : (n : ℕ) → n ≡ getD index 160 0 → c < known → (4 + 8 * c + 8 ≤ n) × (c < 64)
-    declaration-there n e h =
+    pub declaration-there : c < known → (constructorOffset c + 8 ≤ length (payload file)) × (c < 64)
+    declaration-there h =
         let h′ : c < byteAt (payload file) 2 = omega arith in
-        (omega (arith, ok .opened .long, there .constructor c h′ .0), held-arity (payload file) there c h′ .1)
+        (there .constructor c h′ .0, held-arity (payload file) there c h′ .1)
 
-    module _ (h : c < known) (d : Declaration) (ed : d ≡ declarationAt (payload file) (4 + 8 * c)) where
+    module _ (h : c < known) (d : Declaration) (ed : d ≡ declarationAt (payload file) (constructorOffset c)) where
       pub declared-arity : (length (argumentsOf d) ≡ d .arity) × (d .arity ≤ 4)
-      declared-arity = let few = there .constructor c (omega arith) .1 in rw ed (arguments-length (payload file) (4 + 8 * c) few, few)
+      declared-arity =
+          let few = there .constructor c (omega arith) .1 in
+          rw ed (arguments-length (payload file) (constructorOffset c) few, few)
 
-      pub declared : constructor (held file) c ≡ some (record { result = d .result; arguments = argumentsOf d; weight = byteAt (payload file) (4 + 8 * c + 6) })
+      pub declared : constructor (programIn file) c
+          ≡ some (record { result = d .result; arguments = argumentsOf d; weight = byteAt (payload file) (constructorOffset c + 6) })
       unfolding constructorOf
       declared = constructor-is (payload file) c (omega arith) ∙ rw ed
 
-      pub byte-right : (at : ℕ) (types : List ℕ) → length types ≡ 256 → at < 256 → d .result ≡ getD types at 0 → (n : ℕ) → n ≡ d .arity → n ≤ at + 1
-          → (types′ : List ℕ) → types′ ≡ sets types (at + 1 - n) (argumentsOf d) → ReadsByte (held file) c at types types′ (At (at + 1 - n))
+      pub byte-right : (at : ℕ) (types : List ℕ) → length types ≡ 256 → at < 256 → d .result ≡ getD types at 0 → (n : ℕ) → n ≡ d .arity
+          → n ≤ at + 1
+          → (types′ : List ℕ) → types′ ≡ sets types (at + 1 - n) (argumentsOf d)
+          → ReadsByte (programIn file) c at types types′ (At (at + 1 - n))
       byte-right at types long l q n e h types′ p =
           let m : n ≡ length (argumentsOf d) = e ∙ sym (declared-arity .0) in
-          rw (p, m) (read-right (held file) c at types long l _ declared q (omega arith))
+          rw (p, m) (read-right (programIn file) c at types long l _ declared q (omega arith))
 
 ---- The whole check
 
@@ -124,13 +138,14 @@ pub record Reading (s : Program) (bytes parameters : List ℕ) (i : ℕ) (types 
   pub low : at ≤ 256
   pub long : length types ≡ 256
 
-pub reading-start : (s : Program) (bytes parameters types : List ℕ) → length types ≡ 256 → length parameters ≤ 256
+reading-start : (s : Program) (bytes parameters types : List ℕ) → length types ≡ 256 → length parameters ≤ 256
     → Reading s bytes parameters 0 (sets types (256 - length parameters) parameters) (256 - length parameters)
 reading-start s bytes parameters types long few = record {
   left =
       let e : 256 - length parameters + length parameters ≡ 256 = omega arith in
       let d = rw e at (drop-put types (256 - length parameters) parameters (omega arith)) in
-      sym (ap (readBytes s 0 bytes) (d ∙ ap (λ (l : List ℕ). parameters ++ l) (drop-of-length-le types {i = 256} (omega arith)) ∙ append-nil parameters));
+      sym (ap (readBytes s 0 bytes) (d ∙ ap (λ (l : List ℕ). parameters ++ l) (drop-of-length-le types {i = 256} (omega arith))
+      ∙ append-nil parameters));
   low = omega arith;
   long = length-sets types (256 - length parameters) parameters ∙ long;
 }
@@ -171,17 +186,20 @@ module _ (p : List ℕ) (head : ℕ) (there : HeadThere p head) (d : Declaration
   pub head-arity : (length (argumentsOf d) ≡ d .arity) × (d .arity ≤ 4)
   head-arity = rw ed (arguments-length p head (there .few), there .few)
 
-  pub parameters-put : (s : Program) (bytes : List ℕ) (n : ℕ) → n ≡ d .arity → (types types′ : List ℕ) → length types ≡ 256 → types′ ≡ sets types (256 - n) (argumentsOf d)
+  pub parameters-put : (s : Program) (bytes : List ℕ) (n : ℕ) → n ≡ d .arity → (types types′ : List ℕ) → length types ≡ 256
+      → types′ ≡ sets types (256 - n) (argumentsOf d)
       → Reading s bytes (argumentsOf (declarationAt p head)) 0 types′ (256 - n)
   parameters-put s bytes n e types types′ long q =
       let m : n ≡ length (argumentsOf d) = e ∙ sym (head-arity .0) in
-      subst (λ (x : Declaration). Reading s bytes (argumentsOf x) 0 types′ (256 - n)) ed (rw (q, m) (reading-start s bytes (argumentsOf d) types long (omega (arith, head-arity))))
+      subst (λ (x : Declaration). Reading s bytes (argumentsOf x) 0 types′ (256 - n)) ed
+      (rw (q, m) (reading-start s bytes (argumentsOf d) types long (omega (arith, head-arity))))
 
 module _ (s : Program) (p : List ℕ) (head : ℕ) (bytes : List ℕ) where
   pub arguments-long : 65535 < length bytes → refused (refusal 12 65535 0) ≡ argumentsRight s (functionOf p head) bytes
   unfolding argumentsRight
   arguments-long h = simp (lt-leb (length bytes) 65535 h)
 
-  pub arguments-read : length bytes ≤ 65535 → {t : Check} → readBytes s 0 bytes (argumentsOf (declarationAt p head)) ≡ t → t ≡ argumentsRight s (functionOf p head) bytes
+  pub arguments-read : length bytes ≤ 65535 → {t : Check} → readBytes s 0 bytes (argumentsOf (declarationAt p head)) ≡ t
+      → t ≡ argumentsRight s (functionOf p head) bytes
   unfolding argumentsRight functionOf
   arguments-read h e = simp (le-leb (length bytes) 65535 h) (sym e)

@@ -8,7 +8,7 @@ use native.Mathlib.Omega.{arith}
 use lib.ListN.{length, getD, drop, replicate, length-append, length-drop, length-replicate, getD-replicate, List·getD-append}
 use lib.Seq.{ext-getD, getD-append-add, getD-drop}
 use Rattle.rules.specs.Memory.{tableAfter}
-use Rattle.machine.specs.Steps.{Kept, Cleared}
+use Rattle.machine.specs.Steps.{KeptOutside, Cleared}
 use Rattle.machine.proofs.EntryLaws.{lt-or-ge}
 
 abbrev zeros : ℕ → List ℕ
@@ -18,7 +18,8 @@ pub wiped : (n : ℕ) (l l′ : List ℕ) → n ≤ length l → Cleared 0 n l l
 unfolding tableAfter
 wiped n l l′ h c =
     ext-getD 0 l′ (zeros n ++ drop n l) len (λ i m. ⊎-elim
-    (λ a. rw (zeroed i a) (sym (List·getD-append (zeros n) (drop n l) 0 i (omega (arith, length-replicate {A = ℕ} n 0)) ∙ getD-replicate n i 0 0 a)))
+    (λ a. rw (zeroed i a)
+    (sym (List·getD-append (zeros n) (drop n l) 0 i (omega (arith, length-replicate {A = ℕ} n 0)) ∙ getD-replicate n i 0 0 a)))
     (λ b. c .high i (omega arith) ∙ sym (tail i b))
     (lt-or-ge i n))
   where
@@ -32,10 +33,13 @@ wiped n l l′ h c =
     tail i b =
         let e : length (zeros n) + (i - n) ≡ i = omega (arith, length-replicate {A = ℕ} n 0) in
         let f : n + (i - n) ≡ i = omega arith in
-        ap (λ (j : ℕ). getD (zeros n ++ drop n l) j 0) (sym e) ∙ getD-append-add (zeros n) (drop n l) (i - n) 0 ∙ getD-drop n l (i - n) 0 ∙ ap (λ (j : ℕ). getD l j 0) f
+        ap (λ (j : ℕ). getD (zeros n ++ drop n l) j 0) (sym e) ∙ getD-append-add (zeros n) (drop n l) (i - n) 0 ∙ getD-drop n l (i - n) 0
+        ∙ ap (λ (j : ℕ). getD l j 0) f
 
 -- entries that are not usable were kept before: the same as if the table had been wiped at once
-pub wiped-kept : (n : ℕ) (l l₁ : List ℕ) → n ≤ length l → Kept 0 n l l₁ → tableAfter true 0 n l₁ ≡ tableAfter true 0 n l
+pub wiped-kept : (n : ℕ) (l l₁ : List ℕ) → n ≤ length l → KeptOutside 0 n l l₁ → tableAfter true 0 n l₁ ≡ tableAfter true 0 n l
 unfolding tableAfter
-wiped-kept n l l₁ h k = ap (λ (r : List ℕ). replicate n 0 ++ r) (ext-getD 0 (drop n l₁) (drop n l) (length-drop n l₁ ∙ ap (λ (x : ℕ). x - n) (k .len) ∙ sym (length-drop n l)) (λ i m.
+wiped-kept n l l₁ h k =
+    ap (λ (r : List ℕ). replicate n 0 ++ r) (ext-getD 0 (drop n l₁) (drop n l)
+    (length-drop n l₁ ∙ ap (λ (x : ℕ). x - n) (k .len) ∙ sym (length-drop n l)) (λ i m.
     getD-drop n l₁ i 0 ∙ k .high (n + i) (omega arith) ∙ sym (getD-drop n l i 0)))

@@ -4,7 +4,7 @@ use Prim.Native.Nat.{ℕ, _+_, _*_, _≤_, _<_}
 use lib.ListN.{length, getD}
 use Rattle.rules.specs.Program.{Program}
 use Rattle.rules.specs.Prefix.{written}
-use Rattle.machine.specs.Stands.{con, valueBy, valueOf, Made}
+use Rattle.machine.specs.Stands.{con, valueBy, valueOf, CellsMade}
 
 -- the bytes of the value of cell k
 abbrev pub bytesOf : List ℕ → List ℕ → ℕ → List ℕ
@@ -19,7 +19,7 @@ pub record Readable (index cells : List ℕ) (k : ℕ) : Type 0 where
 
 -- cell k is made, and its value has a length of 32 bits
 pub record ResultAt (s : Program) (cells : List ℕ) (used k : ℕ) : Type 0 where
-  pub made-cells : Made s cells used
+  pub made-cells : CellsMade s cells used
   pub room : 5 * used ≤ length cells
   pub old : k < used
   pub short : length (written (valueOf s cells k)) < 4294967296

@@ -38,7 +38,7 @@ abbrev pub place : ℕ → ℕ → Frame
 place f i = record { function = f; instruction = i; stack = [] }
 
 -- the numbers of a program are in the file's ranges
-pub record InRange (s : Program) : Type 0 where
+pub record NumbersInRange (s : Program) : Type 0 where
   pub few : (c : ℕ) → arity s c ≤ 4
   pub at : (f i : ℕ) (ins : Instruction) → current s (place f i) ≡ some ins → (f < 32) × (i ≤ 256)
 
@@ -56,7 +56,7 @@ abbrev pub valueOf : Program → List ℕ → ℕ → Value
 valueOf s cells k = valueBy (arity s) cells k
 
 -- the first used cells are made: of a known constructor, and naming cells before them
-pub record Made (s : Program) (cells : List ℕ) (used : ℕ) : Type 0 where
+pub record CellsMade (s : Program) (cells : List ℕ) (used : ℕ) : Type 0 where
   pub known : (k : ℕ) → k < used → con cells k < length (s .constructors)
   pub before : (k j : ℕ) → k < used → j < arity s (con cells k) → getD cells (5 * k + 1 + j) 0 < k
 
@@ -77,7 +77,7 @@ frameOf s cells stack r =
 
 -- the top frame's tables are in order
 pub record Local (s : Program) (m : Limits) (cells stack : List ℕ) (r : Registers) : Type 0 where
-  pub made : Made s cells (r .used)
+  pub made : CellsMade s cells (r .used)
   pub old : (j : ℕ) → j < r .top → getD stack j 0 < r .used
   pub bottom : r .base ≤ r .top
   pub places : r .top ≤ m .stack

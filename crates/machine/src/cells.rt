@@ -4,10 +4,10 @@ ghost use mathlib.Core.Bool.{true};
 ghost use Prim.Native.Nat.{_+_, _*_, _≤_};
 ghost use lib.ListN.{length};
 ghost use Rattle.rules.specs.Memory.{tableAfter};
-ghost use Rattle.machine.specs.Steps.{Copied, Cleared, Placed};
+ghost use Rattle.machine.specs.Steps.{Copied, Cleared, CellPut};
 
 // Copies n numbers of a slice to a place of another.
-pub fn spill(from: &[u16], at: usize, out: &mut [u16], to: usize, n: usize)
+pub fn copy(from: &[u16], at: usize, out: &mut [u16], to: usize, n: usize)
     requires { ⌜ (at + n ≤ length (now from)) × (to + n ≤ length (now out)) ⌝ }
     ensures { λ _. ⌜ Copied (now (from .entry)) at to n (now (out .entry)) (now (out .exit)) ⌝ }
 {
@@ -19,7 +19,7 @@ pub fn spill(from: &[u16], at: usize, out: &mut [u16], to: usize, n: usize)
 }
 
 // Copies n numbers of a slice to a later place of it.
-pub fn repeat(s: &mut [u16], at: usize, to: usize, n: usize)
+pub fn copy_within(s: &mut [u16], at: usize, to: usize, n: usize)
     requires { ⌜ (at + n ≤ to) × (to + n ≤ length (now s)) ⌝ }
     ensures { λ _. ⌜ Copied (now (s .entry)) at to n (now (s .entry)) (now (s .exit)) ⌝ }
 {
@@ -45,11 +45,11 @@ pub fn clear(out: &mut [u16], at: usize, n: usize)
 // A cell of constructor c with the n numbers of the stack from a place on.
 pub fn put_cell(cells: &mut [u16], used: usize, stack: &[u16], from: usize, n: usize, c: u16)
     requires { ⌜ (5 * used + 5 ≤ length (now cells)) × (n ≤ 4) × (from + n ≤ length (now stack)) ⌝ }
-    ensures { λ _. ⌜ Placed used c n (now (stack .entry)) from (now (cells .entry)) (now (cells .exit)) ⌝ }
+    ensures { λ _. ⌜ CellPut used c n (now (stack .entry)) from (now (cells .entry)) (now (cells .exit)) ⌝ }
 {
     let base = 5 * used;
     cells[base] = c;
-    spill(stack, from, cells, base + 1, n);
+    copy(stack, from, cells, base + 1, n);
     clear(cells, base + 1 + n, 4 - n);
 }
 

@@ -1,27 +1,29 @@
 // Call and return: the waiting frames in their table, three numbers to a frame.
-use crate::cells::repeat;
+use crate::cells::copy_within;
 use crate::fetch::function_arity;
 use crate::numbers::wide16;
 use crate::state::Ended;
-use crate::state::How;
+use crate::state::Halt;
 use crate::state::Limits;
+use crate::state::MachineState;
 use crate::state::Registers;
-use crate::state::Turn;
-use crate::state::View;
+use crate::state::Transition;
 use crate::state::Waiting;
 ghost use mathlib.Core.Path.{_≡_};
 ghost use Prim.Native.Nat.{_+_, _*_, _≤_, _<_};
 ghost use lib.ListN.{length};
-ghost use Rattle.machine.specs.Indexed.{Indexed, held};
-ghost use Rattle.machine.specs.Frames.{waitingAt, FramePut, Standing, Calls, Returns, Within, Turned};
-ghost use Rattle.machine.specs.declared.state.Turn.the-variants as turns;
+ghost use Rattle.rules.specs.Records.{programIn};
+ghost use Rattle.machine.specs.Indexed.{Indexed};
+ghost use Rattle.machine.specs.Frames.{waitingAt, FramePut, Standing, Calls, Returns, StepLeft, Transitioned};
+ghost use Rattle.machine.specs.declared.state.Transition.the-variants as transitions;
 
-// The run is over where the top frame stands.
-pub fn over(how: How, r: Registers, steps: usize) -> Turn
-    ensures { λ x. ⌜ x ≡ turns.Over (record { how = how; function = r .function; instruction = r .instruction; steps = steps; used = r .used }) ⌝ }
+// The run halts where the top frame stands.
+pub fn halted(halt: Halt, r: Registers, steps: usize) -> Transition
+    ensures { λ x. ⌜ x ≡ transitions.Halted
+        (record { halt = halt; function = r .function; instruction = r .instruction; steps = steps; used = r .used }) ⌝ }
 {
-    Turn::Over(Ended {
-        how,
+    Transition::Halted(Ended {
+        halt,
         function: r.function,
         instruction: r.instruction,
         steps,
@@ -55,30 +57,31 @@ pub fn put_frame(frames: &mut [u16], k: usize, w: Waiting)
 
 // Call: the frame waits as it is, and above it comes function g with copies of its arguments.
 pub fn enter(
-    program: &[u8],
-    index: &[u32; 161],
+    file: &[u8],
+    index: &[u32; 160],
     cells: &[u16],
     stack: &mut [u16],
     frames: &mut [u16],
     m: Limits,
-    v: View,
+    v: MachineState,
     g: usize,
     budget: usize,
-) -> Turn
-    requires { ⌜ Standing (held (now program)) m (now cells) (now stack) (now frames) v ⌝ }
-    requires { ⌜ Calls (held (now program)) v g budget ⌝ }
-    requires { ⌜ Indexed (now program) (now index) ⌝ }
-    ensures { λ x. ⌜ Turned (held (now (program .entry))) m budget (now (cells .entry)) (now (stack .entry)) (now (frames .entry)) v (now (cells .entry)) (now (stack .exit)) (now (frames .exit)) x ⌝ }
+) -> Transition
+    requires { ⌜ Standing (programIn (now file)) m (now cells) (now stack) (now frames) v ⌝ }
+    requires { ⌜ Calls (programIn (now file)) v g budget ⌝ }
+    requires { ⌜ Indexed (now file) (now index) ⌝ }
+    ensures { λ x. ⌜ Transitioned (programIn (now (file .entry))) m budget (now (cells .entry)) (now (stack .entry)) (now (frames .entry)) v
+        (now (cells .entry)) (now (stack .exit)) (now (frames .exit)) x ⌝ }
 {
-    let n = function_arity(program, index, g);
+    let n = function_arity(file, index, g);
     let r = v.top;
     let depth = v.depth;
     let top = r.top;
     if depth + 1 >= m.frames {
-        return over(How::OutOfFrames, r, v.steps);
+        return halted(Halt::OutOfFrames, r, v.steps);
     }
     if top + n > m.stack {
-        return over(How::OutOfStack, r, v.steps);
+        return halted(Halt::OutOfStack, r, v.steps);
     }
     let w = Waiting {
         function: r.function as u16,
@@ -86,7 +89,7 @@ pub fn enter(
         height: (top - r.base) as u16,
     };
     put_frame(frames, depth, w);
-    repeat(stack, top - n, top, n);
+    copy_within(stack, top - n, top, n);
     let t = Registers {
         function: g,
         instruction: 1,
@@ -94,7 +97,7 @@ pub fn enter(
         top: top + n,
         used: r.used,
     };
-    Turn::Again(View {
+    Transition::Again(MachineState {
         top: t,
         depth: depth + 1,
         steps: v.steps + 1,
@@ -103,49 +106,51 @@ pub fn enter(
 
 // A return in the only frame: the top value is the result.
 pub fn finish(
-    program: &[u8],
+    file: &[u8],
     cells: &[u16],
     stack: &[u16],
     frames: &[u16],
     m: Limits,
-    v: View,
+    v: MachineState,
     budget: usize,
-) -> Turn
-    requires { ⌜ Standing (held (now program)) m (now cells) (now stack) (now frames) v ⌝ }
-    requires { ⌜ Returns (held (now program)) v ⌝ }
+) -> Transition
+    requires { ⌜ Standing (programIn (now file)) m (now cells) (now stack) (now frames) v ⌝ }
+    requires { ⌜ Returns (programIn (now file)) v ⌝ }
     requires { ⌜ v .depth ≡ 0 ⌝ }
-    ensures { λ x. ⌜ Turned (held (now (program .entry))) m budget (now (cells .entry)) (now (stack .entry)) (now (frames .entry)) v (now (cells .entry)) (now (stack .entry)) (now (frames .entry)) x ⌝ }
+    ensures { λ x. ⌜ Transitioned (programIn (now (file .entry))) m budget (now (cells .entry)) (now (stack .entry)) (now (frames .entry)) v
+        (now (cells .entry)) (now (stack .entry)) (now (frames .entry)) x ⌝ }
 {
     let r = v.top;
     let last = r.top - 1;
     let k = wide16(stack[last]);
-    over(How::Result(k), r, v.steps)
+    halted(Halt::Result(k), r, v.steps)
 }
 
 // Return: below, the waiting call's arguments give way to the top value.
 pub fn leave(
-    program: &[u8],
-    index: &[u32; 161],
+    file: &[u8],
+    index: &[u32; 160],
     cells: &[u16],
     stack: &mut [u16],
     frames: &[u16],
     m: Limits,
-    v: View,
+    v: MachineState,
     budget: usize,
-) -> Turn
-    requires { ⌜ Standing (held (now program)) m (now cells) (now stack) (now frames) v ⌝ }
-    requires { ⌜ Returns (held (now program)) v ⌝ }
-    requires { ⌜ Within v budget ⌝ }
-    requires { ⌜ Indexed (now program) (now index) ⌝ }
-    ensures { λ x. ⌜ Turned (held (now (program .entry))) m budget (now (cells .entry)) (now (stack .entry)) (now (frames .entry)) v (now (cells .entry)) (now (stack .exit)) (now (frames .entry)) x ⌝ }
+) -> Transition
+    requires { ⌜ Standing (programIn (now file)) m (now cells) (now stack) (now frames) v ⌝ }
+    requires { ⌜ Returns (programIn (now file)) v ⌝ }
+    requires { ⌜ StepLeft v budget ⌝ }
+    requires { ⌜ Indexed (now file) (now index) ⌝ }
+    ensures { λ x. ⌜ Transitioned (programIn (now (file .entry))) m budget (now (cells .entry)) (now (stack .entry)) (now (frames .entry)) v
+        (now (cells .entry)) (now (stack .exit)) (now (frames .entry)) x ⌝ }
 {
     let depth = v.depth;
     if depth == 0 {
-        return finish(program, cells, stack, frames, m, v, budget);
+        return finish(file, cells, stack, frames, m, v, budget);
     }
     let r = v.top;
     let last = r.top - 1;
-    let n = function_arity(program, index, r.function);
+    let n = function_arity(file, index, r.function);
     let w = frame_at(frames, depth - 1);
     let at = r.base - n;
     stack[at] = stack[last];
@@ -156,7 +161,7 @@ pub fn leave(
         top: at + 1,
         used: r.used,
     };
-    Turn::Again(View {
+    Transition::Again(MachineState {
         top: t,
         depth: depth - 1,
         steps: v.steps + 1,

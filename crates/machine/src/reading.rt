@@ -1,6 +1,5 @@
 // The argument check: one type after the other is read, and each constructor puts its argument types in place of its own.
-use crate::numbers::wide32;
-use program::wide;
+use readers::wide;
 use rules::answers::Checked;
 use rules::answers::Reason;
 use rules::records::Declaration;
@@ -10,9 +9,9 @@ ghost use lib.ListN.{length};
 ghost use lib.Seq.{sets};
 ghost use Rattle.rules.specs.Answers.{toldCheck};
 ghost use Rattle.rules.specs.Container.{payload};
-ghost use Rattle.rules.specs.Records.{argumentsOf, functionOf};
+ghost use Rattle.rules.specs.Records.{argumentsOf, functionOf, programIn};
+ghost use Rattle.rules.specs.Established.{Parsed};
 ghost use Rattle.rules.specs.Prefix.{argumentsRight};
-ghost use Rattle.machine.specs.Indexed.{Indexed, held};
 ghost use Rattle.machine.specs.Reading.{HeadThere, ReadsByte};
 
 // From where on the types stand that are still to be read, or that the byte is wrong.
@@ -36,20 +35,19 @@ fn put_types(types: &mut [u8; 256], at: usize, d: Declaration)
 }
 
 // One byte of the arguments.
-fn read_byte(program: &[u8], index: &[u32; 161], types: &mut [u8; 256], at: usize, c: usize) -> Read
-    requires { ⌜ Indexed (now program) (now index) ⌝ }
+fn read_byte(file: &[u8], types: &mut [u8; 256], at: usize, c: usize) -> Read
+    requires { ⌜ Parsed (now file) ⌝ }
     requires { ⌜ (at ≤ 256) × (length (now types) ≡ 256) ⌝ }
-    ensures { λ r. ⌜ ReadsByte (held (now (program .entry))) c at (now (types .entry)) (now (types .exit)) r ⌝ }
+    ensures { λ r. ⌜ ReadsByte (programIn (now (file .entry))) c at (now (types .entry)) (now (types .exit)) r ⌝ }
 {
     if at >= 256 {
         return Read::Bad;
     }
-    let n = wide32(index[160]);
-    let known = wide(blocks::payload_byte(program, n, 2));
+    let known = wide(blocks::payload_byte(file, 2));
     if c >= known {
         return Read::Bad;
     }
-    let d = program::declaration(program, n, 4 + 8 * c);
+    let d = readers::declaration(file, readers::constructor_offset(c));
     let arity = wide(d.arity);
     if d.result != types[at] {
         return Read::Bad;
@@ -63,22 +61,22 @@ fn read_byte(program: &[u8], index: &[u32; 161], types: &mut [u8; 256], at: usiz
 }
 
 // 12: the argument bytes, one after the other, for the function whose head stands at an offset.
-pub fn check_arguments(program: &[u8], index: &[u32; 161], head: usize, bytes: &[u8]) -> Checked
-    requires { ⌜ Indexed (now program) (now index) ⌝ }
-    requires { ⌜ HeadThere (payload (now program)) head ⌝ }
-    ensures { λ r. ⌜ toldCheck r ≡ argumentsRight (held (now (program .entry))) (functionOf (payload (now (program .entry))) head) (now (bytes .entry)) ⌝ }
+pub fn check_arguments(file: &[u8], head: usize, bytes: &[u8]) -> Checked
+    requires { ⌜ Parsed (now file) ⌝ }
+    requires { ⌜ HeadThere (payload (now file)) head ⌝ }
+    ensures { λ r. ⌜ toldCheck r ≡ argumentsRight (programIn (now (file .entry))) (functionOf (payload (now (file .entry))) head)
+        (now (bytes .entry)) ⌝ }
 {
     if bytes.len() > 65535 {
         return Checked::Refused(Reason::ArgumentsTooLong);
     }
-    let n = wide32(index[160]);
-    let d = program::declaration(program, n, head);
+    let d = readers::declaration(file, head);
     let mut types = [0u8; 256];
     let mut at = 256 - wide(d.arity);
     put_types(&mut types, at, d);
     let mut i: usize = 0;
     while i < bytes.len() {
-        let r = read_byte(program, index, &mut types, at, wide(bytes[i]));
+        let r = read_byte(file, &mut types, at, wide(bytes[i]));
         match r {
             Read::At(next) => {
                 at = next;

@@ -17,7 +17,7 @@ pub struct Limits {
 }
 
 // Why the top frame does not go on by itself.
-pub enum Why {
+pub enum Pause {
     Spent,
     NoStack,
     NoCells,
@@ -28,14 +28,14 @@ pub enum Why {
 
 pub enum Step {
     Go(Registers),
-    Wait(Why),
+    Wait(Pause),
 }
 
 // Where the top frame stopped, after how many steps, and why.
 pub struct Paused {
     pub top: Registers,
     pub steps: usize,
-    pub why: Why,
+    pub pause: Pause,
 }
 
 // A waiting frame.
@@ -45,15 +45,16 @@ pub struct Waiting {
     pub height: u16,
 }
 
-// The run between two turns: the top frame, how many frames wait, the steps taken.
-pub struct View {
+// The run between two transitions: the top frame, how many frames wait, the steps taken. With the tables it stands for a `State` of the
+// definitions, which is a list of frames.
+pub struct MachineState {
     pub top: Registers,
     pub depth: usize,
     pub steps: usize,
 }
 
 // How a run ends: with the result in a cell, by the program's own stop, or for want of steps or of room in a table.
-pub enum How {
+pub enum Halt {
     Result(usize),
     Aborted,
     OutOfSteps,
@@ -64,14 +65,15 @@ pub enum How {
 
 // How the run ended, at which place, after how many steps, with how many cells in use.
 pub struct Ended {
-    pub how: How,
+    pub halt: Halt,
     pub function: usize,
     pub instruction: usize,
     pub steps: usize,
     pub used: usize,
 }
 
-pub enum Turn {
-    Again(View),
-    Over(Ended),
+// The run goes on from another state, or has ended.
+pub enum Transition {
+    Again(MachineState),
+    Halted(Ended),
 }

@@ -1,40 +1,41 @@
 // The top frame's own steps: load, build and branch, and the loop that never sees the frame table.
+use crate::cells::copy;
 use crate::cells::put_cell;
-use crate::cells::spill;
 use crate::fetch::constructor_arity;
 use crate::fetch::instruction;
 use crate::numbers::wide16;
 use crate::state::Limits;
+use crate::state::Pause;
 use crate::state::Paused;
 use crate::state::Registers;
 use crate::state::Step;
-use crate::state::Why;
-use program::wide;
+use readers::wide;
 use rules::records::Instruction;
-ghost use mathlib.Core.Path.{_≡_};
 ghost use Prim.Native.Nat.{_≤_};
+ghost use Rattle.rules.specs.Records.{programIn};
 ghost use Rattle.rules.specs.declared.records.Instruction.the-variants.{Load, Build, Branch};
-ghost use Rattle.machine.specs.Indexed.{Indexed, held};
-ghost use Rattle.machine.specs.Steps.{Ready, At, Stepped};
+ghost use Rattle.machine.specs.Indexed.{Indexed};
+ghost use Rattle.machine.specs.Steps.{Ready, StandsAt, Stepped};
 ghost use Rattle.machine.specs.Loop.{Begun, Pauses};
 
 // Load: slot a is copied on top.
 pub fn load(
-    program: &[u8],
+    file: &[u8],
     cells: &[u16],
     stack: &mut [u16],
     m: Limits,
     r: Registers,
     a: usize,
 ) -> Step
-    requires { ⌜ Ready (held (now program)) m (now cells) (now stack) r ⌝ }
-    requires { ⌜ At (held (now program)) r (Load a) ⌝ }
-    ensures { λ x. ⌜ Stepped (held (now (program .entry))) m (now (cells .entry)) (now (stack .entry)) r (now (cells .entry)) (now (stack .exit)) x ⌝ }
+    requires { ⌜ Ready (programIn (now file)) m (now cells) (now stack) r ⌝ }
+    requires { ⌜ StandsAt (programIn (now file)) r (Load a) ⌝ }
+    ensures { λ x. ⌜ Stepped (programIn (now (file .entry))) m (now (cells .entry)) (now (stack .entry)) r (now (cells .entry))
+        (now (stack .exit)) x ⌝ }
 {
     let base = r.base;
     let top = r.top;
     if top >= m.stack {
-        return Step::Wait(Why::NoStack);
+        return Step::Wait(Pause::NoStack);
     }
     stack[top] = stack[base + a - 1];
     Step::Go(Registers {
@@ -48,27 +49,28 @@ pub fn load(
 
 // Build: constructor c takes the place of the top values that are its arguments.
 pub fn build(
-    program: &[u8],
-    index: &[u32; 161],
+    file: &[u8],
+    index: &[u32; 160],
     cells: &mut [u16],
     stack: &mut [u16],
     m: Limits,
     r: Registers,
     c: usize,
 ) -> Step
-    requires { ⌜ Ready (held (now program)) m (now cells) (now stack) r ⌝ }
-    requires { ⌜ At (held (now program)) r (Build c) ⌝ }
-    requires { ⌜ Indexed (now program) (now index) ⌝ }
-    ensures { λ x. ⌜ Stepped (held (now (program .entry))) m (now (cells .entry)) (now (stack .entry)) r (now (cells .exit)) (now (stack .exit)) x ⌝ }
+    requires { ⌜ Ready (programIn (now file)) m (now cells) (now stack) r ⌝ }
+    requires { ⌜ StandsAt (programIn (now file)) r (Build c) ⌝ }
+    requires { ⌜ Indexed (now file) (now index) ⌝ }
+    ensures { λ x. ⌜ Stepped (programIn (now (file .entry))) m (now (cells .entry)) (now (stack .entry)) r (now (cells .exit))
+        (now (stack .exit)) x ⌝ }
 {
-    let n = constructor_arity(program, index, c);
+    let n = constructor_arity(file, index, c);
     let used = r.used;
     let from = r.top - n;
     if from >= m.stack {
-        return Step::Wait(Why::NoStack);
+        return Step::Wait(Pause::NoStack);
     }
     if used >= m.cells {
-        return Step::Wait(Why::NoCells);
+        return Step::Wait(Pause::NoCells);
     }
     put_cell(cells, used, stack, from, n, c as u16);
     stack[from] = used as u16;
@@ -83,8 +85,8 @@ pub fn build(
 
 // Branch: a top value of constructor c gives way to its arguments; with any other, b is next.
 pub fn branch(
-    program: &[u8],
-    index: &[u32; 161],
+    file: &[u8],
+    index: &[u32; 160],
     cells: &[u16],
     stack: &mut [u16],
     m: Limits,
@@ -92,10 +94,11 @@ pub fn branch(
     c: usize,
     b: usize,
 ) -> Step
-    requires { ⌜ Ready (held (now program)) m (now cells) (now stack) r ⌝ }
-    requires { ⌜ At (held (now program)) r (Branch c b) ⌝ }
-    requires { ⌜ Indexed (now program) (now index) ⌝ }
-    ensures { λ x. ⌜ Stepped (held (now (program .entry))) m (now (cells .entry)) (now (stack .entry)) r (now (cells .entry)) (now (stack .exit)) x ⌝ }
+    requires { ⌜ Ready (programIn (now file)) m (now cells) (now stack) r ⌝ }
+    requires { ⌜ StandsAt (programIn (now file)) r (Branch c b) ⌝ }
+    requires { ⌜ Indexed (now file) (now index) ⌝ }
+    ensures { λ x. ⌜ Stepped (programIn (now (file .entry))) m (now (cells .entry)) (now (stack .entry)) r (now (cells .entry))
+        (now (stack .exit)) x ⌝ }
 {
     let last = r.top - 1;
     let k = wide16(stack[last]);
@@ -110,11 +113,11 @@ pub fn branch(
             used: r.used,
         });
     }
-    let n = constructor_arity(program, index, c);
+    let n = constructor_arity(file, index, c);
     if last + n > m.stack {
-        return Step::Wait(Why::NoStack);
+        return Step::Wait(Pause::NoStack);
     }
-    spill(cells, cell + 1, stack, last, n);
+    copy(cells, cell + 1, stack, last, n);
     Step::Go(Registers {
         function: r.function,
         instruction: r.instruction + 1,
@@ -126,44 +129,45 @@ pub fn branch(
 
 // One step of the top frame, or why it takes none by itself.
 pub fn one(
-    program: &[u8],
-    index: &[u32; 161],
+    file: &[u8],
+    index: &[u32; 160],
     cells: &mut [u16],
     stack: &mut [u16],
     m: Limits,
     r: Registers,
 ) -> Step
-    requires { ⌜ Ready (held (now program)) m (now cells) (now stack) r ⌝ }
-    requires { ⌜ Indexed (now program) (now index) ⌝ }
-    ensures { λ x. ⌜ Stepped (held (now (program .entry))) m (now (cells .entry)) (now (stack .entry)) r (now (cells .exit)) (now (stack .exit)) x ⌝ }
+    requires { ⌜ Ready (programIn (now file)) m (now cells) (now stack) r ⌝ }
+    requires { ⌜ Indexed (now file) (now index) ⌝ }
+    ensures { λ x. ⌜ Stepped (programIn (now (file .entry))) m (now (cells .entry)) (now (stack .entry)) r (now (cells .exit))
+        (now (stack .exit)) x ⌝ }
 {
-    let ins = instruction(program, index, r.function, r.instruction);
+    let ins = instruction(file, index, r.function, r.instruction);
     match ins {
         Instruction::Load(a) => {
-            return load(program, cells, stack, m, r, wide(a));
+            return load(file, cells, stack, m, r, wide(a));
         }
         Instruction::Build(c) => {
-            return build(program, index, cells, stack, m, r, wide(c));
+            return build(file, index, cells, stack, m, r, wide(c));
         }
         Instruction::Call(g) => {
-            return Step::Wait(Why::Called(wide(g)));
+            return Step::Wait(Pause::Called(wide(g)));
         }
         Instruction::Branch(c, b) => {
-            return branch(program, index, cells, stack, m, r, wide(c), wide16(b));
+            return branch(file, index, cells, stack, m, r, wide(c), wide16(b));
         }
         Instruction::Return => {
-            return Step::Wait(Why::Returned);
+            return Step::Wait(Pause::Returned);
         }
         Instruction::Stop => {
-            return Step::Wait(Why::Stopped);
+            return Step::Wait(Pause::Stopped);
         }
     }
 }
 
 // Runs the top frame until a call, a return, a stop, a table that is full or the end of the budget.
 pub fn straight(
-    program: &[u8],
-    index: &[u32; 161],
+    file: &[u8],
+    index: &[u32; 160],
     cells: &mut [u16],
     stack: &mut [u16],
     m: Limits,
@@ -171,21 +175,22 @@ pub fn straight(
     from: usize,
     budget: usize,
 ) -> Paused
-    requires { ⌜ Begun (held (now program)) m (now cells) (now stack) r ⌝ }
+    requires { ⌜ Begun (programIn (now file)) m (now cells) (now stack) r ⌝ }
     requires { ⌜ from ≤ budget ⌝ }
-    requires { ⌜ Indexed (now program) (now index) ⌝ }
-    ensures { λ p. ⌜ Pauses (held (now (program .entry))) m budget (now (cells .entry)) (now (stack .entry)) r from (now (cells .exit)) (now (stack .exit)) p ⌝ }
+    requires { ⌜ Indexed (now file) (now index) ⌝ }
+    ensures { λ p. ⌜ Pauses (programIn (now (file .entry))) m budget (now (cells .entry)) (now (stack .entry)) r from (now (cells .exit))
+        (now (stack .exit)) p ⌝ }
 {
     let mut top = r;
     let mut steps = from;
     while steps < budget {
-        let x = one(program, index, cells, stack, m, top);
+        let x = one(file, index, cells, stack, m, top);
         match x {
             Step::Go(t) => {
                 top = t;
             }
-            Step::Wait(why) => {
-                return Paused { top, steps, why };
+            Step::Wait(pause) => {
+                return Paused { top, steps, pause };
             }
         }
         steps += 1;
@@ -193,6 +198,6 @@ pub fn straight(
     Paused {
         top,
         steps,
-        why: Why::Spent,
+        pause: Pause::Spent,
     }
 }

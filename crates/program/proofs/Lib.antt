@@ -1,6 +1,2 @@
-pub mod AllLaws
-pub mod PassLaws
 pub mod OpenLaws
 pub mod LayoutLaws
-pub mod DeclareLaws
-pub mod BoundLaws

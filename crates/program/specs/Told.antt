@@ -1,29 +1,21 @@
--- What the answers of the readers and of the functions of numbers 4 and 6 say.
+-- What the answers of the functions for number 4 say.
 use mathlib.Core.Path.{_≡_}
-use mathlib.Core.Bool.{Bool}
 use mathlib.Core.List.{List}
-use mathlib.Core.Option.{Option, none, some}
+use mathlib.Core.Bool.{true}
 use Prim.Native.Nat.{ℕ, _≤_, _<_}
 use lib.ListN.{getD}
-use lib.Dec.{ltb}
+use Rattle.rules.specs.declared.records.Header.{Header}
 use Rattle.rules.specs.declared.answers.Checked.{Checked}
 use Rattle.rules.specs.declared.answers.Checked.the-variants.{Right}
-use Rattle.rules.specs.declared.records.Instruction.{Instruction}
-use Rattle.rules.specs.Base.{numbered, forEach, any}
+use Rattle.rules.specs.Base.{forEach}
 use Rattle.rules.specs.Answers.{toldCheck}
 use Rattle.rules.specs.Container.{payload}
-use Rattle.rules.specs.Records.{alternativeAt, alternativeOffset, headOffset, functionRight, recordsRight, behind as behindOf}
-use Rattle.rules.specs.Opened.{OpenedProgram}
+use Rattle.rules.specs.Records.{headerAt, headerRight, headOffset, functionRight, recordsRight, behind as behindOf}
+use Rattle.rules.specs.Established.{Measured, LaidOut}
 use Rattle.program.specs.declared.Layout.{Layout}
-use Rattle.program.specs.declared.readers.Fetched.{Fetched}
-use Rattle.program.specs.declared.readers.Fetched.the-variants.{Is, Bad}
-
-abbrev pub fetched : Fetched → Option Instruction
-fetched (Is i) = some i
-fetched Bad = none
 
 -- the function at an offset: whether its records are right, and then the offset behind it; that offset is small, so that the next ones fit
-pub record PlacedRight (bytes : List ℕ) (at : ℕ) (checked : Checked) (end : ℕ) : Type 0 where
+pub record FunctionRecordsRight (bytes : List ℕ) (at : ℕ) (checked : Checked) (end : ℕ) : Type 0 where
   pub says : toldCheck checked ≡ functionRight bytes at
   pub small : end ≤ 400000
   pub behind : checked ≡ Right → end ≡ behindOf bytes at
@@ -38,11 +30,14 @@ pub record FunctionsRight (bytes : List ℕ) (m : ℕ) (checked : Checked) (head
   pub says : toldCheck checked ≡ forEach (λ g. functionRight bytes (headOffset bytes g)) 0 m
   pub table : checked ≡ Right → HeadsRight bytes m heads end
 
--- number 4 over verified blocks with a payload of n bytes, and where it holds the layout
-pub record OpenedRight (file : List ℕ) (n : ℕ) (checked : Checked) (layout : Layout) : Type 0 where
-  pub says : toldCheck checked ≡ recordsRight (payload file)
-  pub program : checked ≡ Right → OpenedProgram file n (layout .header) (layout .heads) × (layout .length ≡ n)
+-- verified blocks whose header was read, and is right
+pub record HeaderRead (file : List ℕ) (n : ℕ) (h : Header) : Type 0 where
+  pub measured : Measured file n
+  pub whole : 4 ≤ n
+  pub is : h ≡ headerAt (payload file) 0
+  pub right : headerRight h ≡ true
 
--- whether argument j, from 0, has a coefficient of 1 or more in one of n alternatives, from k on, of the function at an offset
-unfoldable pub positiveIn : List ℕ → ℕ → ℕ → ℕ → ℕ → Bool
-positiveIn bytes at k n j = any (λ a. ltb 0 (getD (a .coefficients) j 0)) (numbered (λ i. alternativeAt bytes (alternativeOffset at i)) k n)
+-- number 4 over verified blocks, and where it holds the layout
+pub record OpenedRight (file : List ℕ) (checked : Checked) (layout : Layout) : Type 0 where
+  pub says : toldCheck checked ≡ recordsRight (payload file)
+  pub program : checked ≡ Right → LaidOut file (layout .header) (layout .heads)

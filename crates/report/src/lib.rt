@@ -2,7 +2,7 @@
 pub mod line;
 
 ghost use mathlib.Core.Path.{_≡_};
-ghost use Rattle.rules.specs.Answers.{refusalOf, at as refusalAt};
+ghost use Rattle.rules.specs.Answers.{refusalOf, atPlace};
 ghost use Rattle.report.specs.Said.{said};
 ghost use Rattle.rules.specs.Base.{refusal as refusalWith};
 use rules::answers::Place;
@@ -26,8 +26,8 @@ fn refusal(number: u8, first: usize, second: usize) -> Numbers
 }
 
 // A number at an instruction of a function.
-fn at(number: u8, place: Place) -> Numbers
-    ensures { λ x. ⌜ said x ≡ refusalAt number place ⌝ }
+fn at_place(number: u8, place: Place) -> Numbers
+    ensures { λ x. ⌜ said x ≡ atPlace number place ⌝ }
 {
     refusal(number, place.function, place.instruction)
 }
@@ -38,24 +38,24 @@ pub fn numbers_of(reason: Reason) -> Numbers
 {
     match reason {
         Reason::BadLength => refusal(1, 0, 0),
-        Reason::BadBlockCheck { block } => refusal(2, block, 0),
+        Reason::BadChecksum { block } => refusal(2, block, 0),
         Reason::BadBlock { block } => refusal(3, block, 0),
         Reason::BadRecord { offset } => refusal(4, offset, 0),
         Reason::BadConstructor { constructor } => refusal(5, 0, constructor),
         Reason::BadSignature { function } => refusal(5, 1, function),
         Reason::UnboundedArgument { function, argument } => refusal(6, function, argument),
-        Reason::BadFlow(place) => at(7, place),
-        Reason::BadTypes(place) => at(8, place),
-        Reason::TooManyForms(place) => at(9, place),
-        Reason::NotCovered(place) => at(10, place),
+        Reason::BadFlow(place) => at_place(7, place),
+        Reason::BadTypes(place) => at_place(8, place),
+        Reason::TooManyForms(place) => at_place(9, place),
+        Reason::NotCovered(place) => at_place(10, place),
         Reason::NoEntry { entry } => refusal(11, entry, 0),
         Reason::ArgumentsTooLong => refusal(12, 65535, 0),
         Reason::BadArgument { offset } => refusal(12, offset, 0),
         Reason::OutputTooShort { needed } => refusal(13, needed, 0),
         Reason::BadPayload => refusal(18, 0, 0),
-        Reason::BudgetSpent(place) => at(14, place),
-        Reason::OutOfCells(place) => at(15, place),
-        Reason::OutOfStack(place) => at(16, place),
-        Reason::OutOfFrames(place) => at(17, place),
+        Reason::BudgetSpent(place) => at_place(14, place),
+        Reason::OutOfCells(place) => at_place(15, place),
+        Reason::OutOfStack(place) => at_place(16, place),
+        Reason::OutOfFrames(place) => at_place(17, place),
     }
 }

@@ -2,7 +2,7 @@
 ghost use mathlib.Core.Path.{_≡_};
 ghost use Prim.Native.Nat.{_+_, _≤_};
 ghost use lib.ListN.{length};
-ghost use Rattle.io.specs.Counts.{Counts};
+ghost use Rattle.io.specs.Counts.{Counts as CountsFront};
 ghost use Rattle.rules.specs.Memory.{frontWritten, overwritten};
 ghost use Rattle.rules.specs.Answers.{told};
 ghost use Rattle.report.specs.Line.{spaced, verdictLine};
@@ -51,7 +51,7 @@ fn put_line(line: &mut [u8], word: &[u8], first: u64, second: u64, third: u64) -
 
 // The line of a verdict, at the buffer's front. The answer is its length.
 pub fn write_verdict(verdict: Verdict, line: &mut [u8; 72]) -> usize
-    ensures { λ r. ⌜ Counts r (now (line .exit)) ⌝ }
+    ensures { λ r. ⌜ CountsFront r (now (line .exit)) ⌝ }
     ensures { λ r. ⌜ r ≡ length (verdictLine (told verdict)) ⌝ }
     ensures { λ _. ⌜ now (line .exit) ≡ frontWritten (verdictLine (told verdict)) (now (line .entry)) ⌝ }
 {

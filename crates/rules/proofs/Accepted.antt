@@ -51,7 +51,8 @@ checked-parts bytes s e =
     rw (← same) (record { reads = d .1; declarations = r₅ .1; bounds = r₆ .1; flow = r₇ .1; types = r₈ .1; shapes = r₉ .1 })
 
 module _ (s : Program) (n : ℕ) (f : Function) where
-  accepted-function : length (f .parameters) ≤ 4 → 1 ≤ length (f .code) → {T : List (List Bool)} → flowOf n f ≡ found T → {U : List (List (List ℕ))} → typesOf s n f ≡ found U → {W : List (List Shape)} → shapesOf s n f ≡ found W
+  accepted-function : length (f .parameters) ≤ 4 → 1 ≤ length (f .code) → {T : List (List Bool)} → flowOf n f ≡ found T
+      → {U : List (List (List ℕ))} → typesOf s n f ≡ found U → {W : List (List Shape)} → shapesOf s n f ≡ found W
       → AcceptedFn s n f (arrived (found U)) (arrived (found W))
   unfolding flowOf typesOf shapesOf
   accepted-function few code eT eU eV =
@@ -108,13 +109,16 @@ module _ {bytes : List ℕ} {s : Program} (P : Passed bytes s) where
       let eh : shapesOf s n f ≡ found (h .0) = rw z at (h .1) in
       rw (et, eh) (accepted-function s n f (d .few) (d .some-code) (rw z at (w .1)) et eh)
 
-  pub types-low : (n : ℕ) (f : Function) → function s n ≡ some f → (i : ℕ) (ts : List ℕ) → arrived (typesOf s n f) i ≡ some ts → length ts ≤ 16
+  pub types-low : (n : ℕ) (f : Function) → function s n ≡ some f → (i : ℕ) (ts : List ℕ) → arrived (typesOf s n f) i ≡ some ts
+      → length ts ≤ 16
   unfolding typesRight typesOf
   types-low n f e i ts h =
       let r = each-found (typesOf s) 0 (s .functions) (P .types) n e in
       let is : typesOf s n f ≡ found (r .0) = rw (zero-add n) at (r .1) in
       one (walks (visited (typeRule s n f)) (f .code) 1 ((1, f .parameters) ∷ []) is) i (rw is at h)
     where
-      one : {T : List (List (List ℕ))} → Walks (visited (typeRule s n f)) 1 ((1, f .parameters) ∷ []) (f .code) T → (i : ℕ) → arrived (found T) i ≡ some ts → length ts ≤ 16
-      one w zero e′ = absurd (none-some e′)
-      one w (suc d) e′ = walk-all Low (type-low s n f) w (_l∷_ {x = (1, f .parameters)} (le-trans (decoded-function n f e .few) (omega arith)) l[]) d e′
+      one : {T : List (List (List ℕ))} → Walks (visited (typeRule s n f)) 1 ((1, f .parameters) ∷ []) (f .code) T → (i : ℕ)
+          → arrived (found T) i ≡ some ts → length ts ≤ 16
+      one w zero e′ = none-some e′
+      one w (suc d) e′ =
+          walk-all Low (type-low s n f) w (_l∷_ {x = (1, f .parameters)} (le-trans (decoded-function n f e .few) (omega arith)) l[]) d e′

@@ -50,7 +50,7 @@ module _ (s : Program) (κ : ℕ) (w : ℕ → ℕ) (k : ℕ) (e′ : Expression
   mutual
     unfolding replace
 
-    pub replace-amount : (e : Expression) → amount s κ w (replace k e′ e) ≤ amount s κ w e + amount s 0 (one-at k) e * amount s κ w e′
+    replace-amount : (e : Expression) → amount s κ w (replace k e′ e) ≤ amount s κ w e + amount s 0 (one-at k) e * amount s κ w e′
     replace-amount (node (variable j) ts) = one (eqb j k)
       where
         one : (b : Bool) → amount s κ w (if b then e′ else node (variable j) ts) ≤ w j + (if b then 1 else 0) * amount s κ w e′
@@ -59,11 +59,13 @@ module _ (s : Program) (κ : ℕ) (w : ℕ → ℕ) (k : ℕ) (e′ : Expression
     replace-amount (node (built c) ts) = omega (arith, replace-amounts ts)
     replace-amount (node (called g) ts) = zero-le
 
-    pub replace-amounts : (ts : Trees Symbol) → total (amounts s κ w (replaceAll k e′ ts)) ≤ total (amounts s κ w ts) + total (amounts s 0 (one-at k) ts) * amount s κ w e′
+    replace-amounts : (ts : Trees Symbol) → total (amounts s κ w (replaceAll k e′ ts)) ≤ total (amounts s κ w ts) + total (amounts s 0
+        (one-at k) ts) * amount s κ w e′
     replace-amounts nil = zero-le
     replace-amounts (cons t ts) = omega (arith, replace-amount t, replace-amounts ts)
 
-  pub replaced-amount : (es : List Expression) → inAll s κ w (map (replace k e′) es) ≤ inAll s κ w es + inAll s 0 (one-at k) es * amount s κ w e′
+  pub replaced-amount : (es : List Expression)
+      → inAll s κ w (map (replace k e′) es) ≤ inAll s κ w es + inAll s 0 (one-at k) es * amount s κ w e′
   replaced-amount [] = zero-le
   replaced-amount (e ∷ es) = omega (arith, replace-amount e, replaced-amount es)
 
@@ -80,7 +82,7 @@ module _ (k : ℕ) (e′ : Expression) (p : Plain e′) where
     replace-plain (node (built c) ts) h = replace-plains ts h
     replace-plain (node (called g) ts) h = absurd h
 
-    pub replace-plains : (ts : Trees Symbol) → PlainAll ts → PlainAll (replaceAll k e′ ts)
+    replace-plains : (ts : Trees Symbol) → PlainAll ts → PlainAll (replaceAll k e′ ts)
     replace-plains nil h = tt
     replace-plains (cons t ts) h = (replace-plain t (h .0), replace-plains ts (h .1))
 
@@ -95,7 +97,7 @@ pub plain-trees : {es : List Expression} → All Plain es → PlainAll (fromList
 plain-trees l[] = tt
 plain-trees (p l∷ ps) = (p, plain-trees ps)
 
-pub one-at-other : (x k : ℕ) → (k ≡ x → ⊥) → one-at x k ≡ 0
+one-at-other : (x k : ℕ) → (k ≡ x → ⊥) → one-at x k ≡ 0
 one-at-other x k h = rw (ne-eqb k x h)
 
 module _ (s : Program) where
@@ -119,6 +121,7 @@ module _ (s : Program) where
   fresh-once x b zero = zero-le
   fresh-once x b (suc n) = one (eqb b x) refl (fresh-once x (suc b) n)
     where
-      one : (t : Bool) → eqb b x ≡ t → inAll s 0 (one-at x) (variables (suc b) n) ≤ 1 → (if t then 1 else 0) + inAll s 0 (one-at x) (variables (suc b) n) ≤ 1
+      one : (t : Bool) → eqb b x ≡ t → inAll s 0 (one-at x) (variables (suc b) n) ≤ 1
+          → (if t then 1 else 0) + inAll s 0 (one-at x) (variables (suc b) n) ≤ 1
       one true e h = omega (arith, fresh-below x (suc b) n (omega (arith, eqb-true b x e)))
       one false e h = omega arith

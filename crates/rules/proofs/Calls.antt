@@ -23,41 +23,48 @@ use Rattle.rules.specs.Facts.{Plain, PlainAll, BranchFact}
 use Rattle.rules.proofs.ListLaws.{none-some, some-inj, split-parts, all-append, all-mapped, all-at, all-take, all-drop, all-one}
 use Rattle.rules.proofs.TriedLaws.{found-inj, each-found}
 use Rattle.rules.proofs.WalkLaws.{BringsAt, Walks, walks, walks-as, walk-rule, walk-all-at, table-on}
-use Rattle.rules.proofs.RuleLaws.{flow-single, flow-load, flow-build, flow-call, flow-branch, flow-among, flow-once, flow-forward, flow-follows, shape-covered, shape-load, shape-build, shape-call, shape-branch, branch-none, branch-variable, branch-built, branch-called}
+use Rattle.rules.proofs.RuleLaws.{flow-single, flow-load, flow-build, flow-call, flow-branch, flow-among, flow-once, flow-forward}
+use Rattle.rules.proofs.RuleLaws.{flow-follows, shape-covered, shape-load, shape-build, shape-call, shape-branch, branch-none}
+use Rattle.rules.proofs.RuleLaws.{branch-variable, branch-built, branch-called}
 use Rattle.rules.proofs.Amounts.{replace-plain, plain-fresh, plain-trees}
-use Rattle.rules.proofs.Sound.{Stands, Leads}
+use Rattle.rules.proofs.Sound.{Stands, LeadsOn}
 use Rattle.rules.proofs.Accepted.{checked-parts}
 
 true-false : some true ≡ some false → ⊥
 true-false e = let z : _≡_ {A = ℕ} 0 1 = cc in omega arith
 
 all-slot : {A : Type 0} {P : A → Type 0} (a : ℕ) {xs : List A} {x : A} → slot a xs ≡ some x → All P xs → P x
-all-slot zero e h = absurd (none-some e)
+all-slot zero e h = none-some e
 all-slot (suc k) e h = all-at k h e
 
 plain-list : (ts : Trees Symbol) → PlainAll ts → All Plain (toList ts)
 plain-list nil h = l[]
 plain-list (cons t ts) h = _l∷_ {x = t} (h .0) (plain-list ts (h .1))
 
-plain-parts : (k : ℕ) {es : List Expression} {p : List Expression × List Expression} → split k es ≡ some p → All Plain es → All Plain (p .0) × All Plain (p .1)
+plain-parts : (k : ℕ) {es : List Expression} {p : List Expression × List Expression} → split k es ≡ some p → All Plain es → All Plain (p .0)
+    × All Plain (p .1)
 plain-parts k {es} e h =
     let r = split-parts k es e in
     rw (r .1) (all-take (length es - k) h, all-drop (length es - k) h)
 
-module _ (s : Program) (n : ℕ) (f : Function) (flow : ℕ → Option Bool) (stands : Stands flow (flowFrom n (length (f .code))) (f .code)) (there : (i : ℕ) (ins : Instruction) → slot i (f .code) ≡ some ins → (p : Bool) × (flow i ≡ some p)) where
+module _ (s : Program) (n : ℕ) (f : Function) (flow : ℕ → Option Bool) (stands : Stands flow (flowFrom n (length (f .code))) (f .code))
+    (there : (i : ℕ) (ins : Instruction) → slot i (f .code) ≡ some ins → (p : Bool) × (flow i ≡ some p)) where
   -- no call on the stack where none has been passed
   abbrev Free : ℕ → Shape → Type 0
   Free i x = flow i ≡ some false → All Plain (x .stack)
 
-  branch-free : (i : ℕ) (x : Shape) (rest : List Expression) (c args b : ℕ) (es : List Expression) (M : List (Arrow Shape)) → All Plain (x .stack) → All Plain rest → All Plain es
+  branch-free : (i : ℕ) (x : Shape) (rest : List Expression) (c args b : ℕ) (es : List Expression) (M : List (Arrow Shape))
+      → All Plain (x .stack) → All Plain rest → All Plain es
       → branchOn s n f i x rest c args b es ≡ found M → All (BringsAt Free) M
   unfolding splitVariable
   branch-free i x rest c args b [] M h r q e = absurd (branch-none s n f i x rest c args b e)
   branch-free i x rest c args b (node (variable v) ts ∷ more) M h r q e =
       let new : Expression = made (built c) (variables (x .count) args) in
       rw (branch-variable s n f i x rest c args b v ts more e .1)
-      ((λ _. all-append (all-mapped (replace v new) (replace-plain v new (plain-trees (plain-fresh (x .count) args))) r) (plain-fresh (x .count) args)) l∷ (λ _. h) l∷ l[])
-  branch-free i x rest c args b (node (built d) ts ∷ more) M h r (q l∷ qs) e = rw (branch-built s n f i x rest c args b d ts more e) (one (eqb d c))
+      ((λ _. all-append (all-mapped (replace v new) (replace-plain v new (plain-trees (plain-fresh (x .count) args))) r)
+      (plain-fresh (x .count) args)) l∷ (λ _. h) l∷ l[])
+  branch-free i x rest c args b (node (built d) ts ∷ more) M h r (q l∷ qs) e =
+      rw (branch-built s n f i x rest c args b d ts more e) (one (eqb d c))
     where
       one : (y : Bool) → All (BringsAt Free) ((if y then (suc i, withStack x (rest ++ toList ts)) else (b, x)) ∷ [])
       one true = (λ _. all-append r (plain-list ts q)) l∷ l[]
@@ -65,7 +72,8 @@ module _ (s : Program) (n : ℕ) (f : Function) (flow : ℕ → Option Bool) (st
   branch-free i x rest c args b (node (called g) ts ∷ more) M h r q e = absurd (branch-called s n f i x rest c args b g ts more e)
 
   from-free : (i : ℕ) (ins : Instruction) (x : Shape) (M : List (Arrow Shape)) → shapeFrom s n f i ins x ≡ found M → Free i x
-      → (p : Bool) → flow i ≡ some p → (L : List (Arrow Bool)) → flowFrom n (length (f .code)) i ins p ≡ found L → All (Leads flow) L → All (BringsAt Free) M
+      → (p : Bool) → flow i ≡ some p → (L : List (Arrow Bool)) → flowFrom n (length (f .code)) i ins p ≡ found L → All (LeadsOn flow) L
+      → All (BringsAt Free) M
   unfolding shapeFrom
   from-free i (Load a) x M e h p fi L el lead =
       let r = shape-load s n f i a x e in
@@ -85,7 +93,8 @@ module _ (s : Program) (n : ℕ) (f : Function) (flow : ℕ → Option Bool) (st
   from-free i Return x M e h p fi L el lead = rw (← found-inj e) l[]
   from-free i Stop x M e h p fi L el lead = rw (← found-inj e) l[]
 
-  rule-free : (i : ℕ) (ins : Instruction) → slot i (f .code) ≡ some ins → (x : Shape) (M : List (Arrow Shape)) → shapeRule s n f i ins x ≡ found M → Free i x → All (BringsAt Free) M
+  rule-free : (i : ℕ) (ins : Instruction) → slot i (f .code) ≡ some ins → (x : Shape) (M : List (Arrow Shape))
+      → shapeRule s n f i ins x ≡ found M → Free i x → All (BringsAt Free) M
   rule-free i ins at-i x M e h =
       let t = there i ins at-i in
       let r = stands i (t .0) (t .1) in
@@ -99,26 +108,32 @@ module _ (s : Program) (n : ℕ) (f : Function) (flow : ℕ → Option Bool) (st
       let same : r .0 ≡ Branch c b = some-inj (sym (r .1) ∙ at-i) in
       t .1 ∙ ap some (flow-branch n (length (f .code)) i c b (t .0) (rw same at (r .3)) .0)
 
-module _ (s : Program) (n : ℕ) (f : Function) {T : List (List Bool)} (w : Walks (flowRule n (length (f .code))) 1 ((1, false) ∷ []) (f .code) T) where
+module _ (s : Program) (n : ℕ) (f : Function) {T : List (List Bool)}
+    (w : Walks (flowRule n (length (f .code))) 1 ((1, false) ∷ []) (f .code) T) where
   flow-stands : Stands (arrived (found T)) (flowFrom n (length (f .code))) (f .code)
   flow-stands =
-      table-on (flowFrom n (length (f .code))) (f .code) (flow-follows n (length (f .code)) (flowFrom n (length (f .code))) (flow-among n (length (f .code)))) (flow-forward n (length (f .code))) w
-      (walks-as (λ i ins xs L r. let q = flow-single n (length (f .code)) i ins xs L r in rw (q .1) (q .2)) w) (flow-once n (length (f .code)) w)
+      table-on (flowFrom n (length (f .code))) (f .code)
+      (flow-follows n (length (f .code)) (flowFrom n (length (f .code))) (flow-among n (length (f .code))))
+      (flow-forward n (length (f .code))) w
+      (walks-as (λ i ins xs L r. let q = flow-single n (length (f .code)) i ins xs L r in rw (q .1) (q .2)) w)
+      (flow-once n (length (f .code)) w)
 
   flow-there : (i : ℕ) (ins : Instruction) → slot i (f .code) ≡ some ins → (p : Bool) × (arrived (found T) i ≡ some p)
-  flow-there zero ins e = absurd (none-some e)
+  flow-there zero ins e = none-some e
   flow-there (suc d) ins e =
       let r = walk-rule w d e in
       let q = flow-single n (length (f .code)) (1 + d) ins (getD T d []) (r .0) (r .1) in
       (q .0, ap first (q .1))
 
-  table-free : {U : List (List Shape)} → Walks (visited (shapeRule s n f)) 1 ((1, startShape f) ∷ []) (f .code) U → (i : ℕ) (x : Shape) → arrived (found U) i ≡ some x → Free s n f (arrived (found T)) flow-stands flow-there i x
+  table-free : {U : List (List Shape)} → Walks (visited (shapeRule s n f)) 1 ((1, startShape f) ∷ []) (f .code) U → (i : ℕ) (x : Shape)
+      → arrived (found U) i ≡ some x → Free s n f (arrived (found T)) flow-stands flow-there i x
   unfolding startShape
-  table-free v zero x e = absurd (none-some e)
+  table-free v zero x e = none-some e
   table-free v (suc d) x e =
       let same : 1 + d ≡ suc d = omega arith in
       rw same at (walk-all-at (Free s n f (arrived (found T)) flow-stands flow-there) v
-      (λ k ins g y M r p. let one : 1 + k ≡ suc k = omega arith in rule-free s n f (arrived (found T)) flow-stands flow-there (1 + k) ins (rw one g) y M r p)
+      (λ k ins g y M r p. let one : 1 + k ≡ suc k = omega arith in
+      rule-free s n f (arrived (found T)) flow-stands flow-there (1 + k) ins (rw one g) y M r p)
       ((λ _. plain-fresh 0 (arity f)) l∷ l[]) d e)
 
 pub branch-fact : BranchFact

@@ -1,58 +1,61 @@
 -- The check pass by pass: the first refusal counts, and where none is made the program is the one that the payload says.
-use mathlib.Core.Path.{_≡_, refl}
+use mathlib.Core.Path.{_≡_}
 use mathlib.Core.List.{List}
 use Prim.Native.Nat.{ℕ}
 use Rattle.rules.specs.Base.{Refusal, found, refused, passed}
 use Rattle.rules.specs.Container.{verify, payload}
 use Rattle.rules.specs.Program.{Program}
-use Rattle.rules.specs.Records.{recordsRight, programOf, decode}
+use Rattle.rules.specs.Records.{recordsRight, decode, programIn}
 use Rattle.rules.specs.Declarations.{declarationsRight, boundsRight}
 use Rattle.rules.specs.Flow.{flowRight}
 use Rattle.rules.specs.Types.{typesRight}
 use Rattle.rules.specs.Shapes.{sizesRight}
 use Rattle.rules.specs.Check.{checked, countsOf, verdictOf}
+use Rattle.rules.specs.Established.{Verified, Parsed, Declared, Flowing, Typechecked, Accepted}
 
-module _ (file : List ℕ) where
-  abbrev s : Program
-  s = programOf (payload file)
+pub refused-blocks : (file : List ℕ) {r : Refusal} → verify file ≡ refused r → checked file ≡ refused r
+unfolding checked
+refused-blocks file e = rw e
 
-  pub refused-blocks : {r : Refusal} → verify file ≡ refused r → checked file ≡ refused r
-  unfolding checked
-  refused-blocks e = rw e
+module _ {file : List ℕ} {r : Refusal} where
+  pub refused-records : Verified file → recordsRight (payload file) ≡ refused r → checked file ≡ refused r
+  unfolding checked decode
+  refused-records v e = rw (v .blocks, e)
 
-  module _ (blocks : verify file ≡ passed) where
-    pub refused-records : {r : Refusal} → recordsRight (payload file) ≡ refused r → checked file ≡ refused r
-    unfolding checked decode
-    refused-records e = rw (blocks, e)
+  pub refused-declarations : Parsed file → declarationsRight (programIn file) ≡ refused r → checked file ≡ refused r
+  unfolding checked decode
+  refused-declarations p e = rw (p .verified .blocks, p .records, e)
 
-    module _ (records : recordsRight (payload file) ≡ passed) where
-      pub refused-declarations : {r : Refusal} → declarationsRight s ≡ refused r → checked file ≡ refused r
-      unfolding checked decode
-      refused-declarations e = rw (blocks, records, e)
+  pub refused-bounds : Parsed file → declarationsRight (programIn file) ≡ passed → boundsRight (programIn file) ≡ refused r
+      → checked file ≡ refused r
+  unfolding checked decode
+  refused-bounds p d e = rw (p .verified .blocks, p .records, d, e)
 
-      module _ (declarations : declarationsRight s ≡ passed) where
-        pub refused-bounds : {r : Refusal} → boundsRight s ≡ refused r → checked file ≡ refused r
-        unfolding checked decode
-        refused-bounds e = rw (blocks, records, declarations, e)
+  pub refused-flow : Declared file → flowRight (programIn file) ≡ refused r → checked file ≡ refused r
+  unfolding checked decode
+  refused-flow d e = let p = d .parsed in rw (p .verified .blocks, p .records, d .declarations, d .bounds, e)
 
-        module _ (bounds : boundsRight s ≡ passed) where
-          pub refused-flow : {r : Refusal} → flowRight s ≡ refused r → checked file ≡ refused r
-          unfolding checked decode
-          refused-flow e = rw (blocks, records, declarations, bounds, e)
+  pub refused-types : Flowing file → typesRight (programIn file) ≡ refused r → checked file ≡ refused r
+  unfolding checked decode
+  refused-types f e =
+      let d = f .declared in
+      let p = d .parsed in
+      rw (p .verified .blocks, p .records, d .declarations, d .bounds, f .flow, e)
 
-          module _ (flow : flowRight s ≡ passed) where
-            pub refused-types : {r : Refusal} → typesRight s ≡ refused r → checked file ≡ refused r
-            unfolding checked decode
-            refused-types e = rw (blocks, records, declarations, bounds, flow, e)
+  pub refused-sizes : Typechecked file → sizesRight (programIn file) ≡ refused r → checked file ≡ refused r
+  unfolding checked decode
+  refused-sizes t e =
+      let d = t .flowing .declared in
+      let p = d .parsed in
+      rw (p .verified .blocks, p .records, d .declarations, d .bounds, t .flowing .flow, t .types, e)
 
-            module _ (types : typesRight s ≡ passed) where
-              pub refused-sizes : {r : Refusal} → sizesRight s ≡ refused r → checked file ≡ refused r
-              unfolding checked decode
-              refused-sizes e = rw (blocks, records, declarations, bounds, flow, types, e)
-
-              pub accepts : sizesRight s ≡ passed → checked file ≡ found s
-              unfolding checked decode
-              accepts e = rw (blocks, records, declarations, bounds, flow, types, e)
+pub accepted-checked : {file : List ℕ} → Accepted file → checked file ≡ found (programIn file)
+unfolding checked decode
+accepted-checked a =
+    let t = a .typechecked in
+    let d = t .flowing .declared in
+    let p = d .parsed in
+    rw (p .verified .blocks, p .records, d .declarations, d .bounds, t .flowing .flow, t .types, a .sizes)
 
 pub verdict-refused : (file : List ℕ) {r : Refusal} → checked file ≡ refused r → verdictOf file ≡ refused r
 unfolding verdictOf

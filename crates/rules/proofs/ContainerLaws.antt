@@ -11,8 +11,9 @@ use lib.Seq.{drop-cons, drop-drop, getD-append-add, getD-take, getD-drop, length
 use lib.Dec.{leb, ltb, eqb}
 use borrow.Author.Tests.{leb-true, ltb-true, ltb-false, eqb-true, eqb-false, eq-eqb, ne-eqb}
 use Rattle.rules.specs.Base.{found, refused, refusal, _>>=_, passed, require, isZero, all, byteAt, wordAt, longAt}
-use Rattle.rules.specs.Container.{weighed, blockCheck, usedRight, blockRight, verifyBlock, verifyBlocks, lengthRight, verify, payloadOf, payload, placeOf}
-use Rattle.rules.specs.Opened.{Opened}
+use Rattle.rules.specs.Container.{weighed, checksum, usedRight, blockRight, verifyBlock, verifyBlocks, lengthRight, verify, payloadOf}
+use Rattle.rules.specs.Container.{payload, placeOf}
+use Rattle.rules.specs.Established.{Verified}
 use Rattle.rules.proofs.TriedLaws.{bind-found, required}
 
 ---- The check of a block
@@ -54,7 +55,7 @@ unfolding verify
 verify-begun s e = rw e
 
 -- the last block has none left behind it
-pub last-block : (k n : ℕ) → k < n → isZero (n - (k + 1)) ≡ eqb (k + 1) n
+last-block : (k n : ℕ) → k < n → isZero (n - (k + 1)) ≡ eqb (k + 1) n
 last-block k n h = go (eqb (k + 1) n) refl
   where
     go : (t : Bool) → eqb (k + 1) n ≡ t → isZero (n - (k + 1)) ≡ t
@@ -75,14 +76,15 @@ blocks-step n k s h =
 ---- The payload
 
 -- a verified block's used count is right
-pub verified-used : (last : Bool) (k : ℕ) (b : List ℕ) → verifyBlock last k b ≡ passed → usedRight last (wordAt b 2) ≡ true
+verified-used : (last : Bool) (k : ℕ) (b : List ℕ) → verifyBlock last k b ≡ passed → usedRight last (wordAt b 2) ≡ true
 unfolding verifyBlock blockRight
 verified-used last k b e =
-    let r = bind-found (require (eqb (longAt b 508) (blockCheck b)) (refusal 2 k 0)) _ e in
+    let r = bind-found (require (eqb (longAt b 508) (checksum b)) (refusal 2 k 0)) _ e in
     let number = eqb (wordAt b 0) k in
     let unused = all isZero (drop (4 + wordAt b 2) (take 508 b)) in
     let form = required (blockRight last k b) (refusal 3 k 0) (r .2) in
-    (and-eq-true-iff number (usedRight last (wordAt b 2))) .0 ((and-eq-true-iff (number && usedRight last (wordAt b 2)) unused) .0 form .0) .1
+    (and-eq-true-iff number (usedRight last (wordAt b 2))) .0
+    ((and-eq-true-iff (number && usedRight last (wordAt b 2)) unused) .0 form .0) .1
 
 -- the used count of the first block of a file
 pub used-of-first : (s : List ℕ) → 512 ≤ length s → wordAt (take 512 s) 2 ≡ wordAt s 2
@@ -94,7 +96,8 @@ unfolding usedRight
 full-count n m {u} p e = eqb-true u 504 (subst (λ (t : Bool). usedRight t u ≡ true) (ne-eqb n 0 (omega arith)) e)
 
 -- the payload byte at a place of the blocks
-pub payload-byte : (n k : ℕ) (s : List ℕ) → length s ≡ 512 * n → verifyBlocks n k s ≡ passed → (i : ℕ) → i < length (payloadOf n s) → getD (payloadOf n s) i 0 ≡ getD s (placeOf i) 0
+payload-byte : (n k : ℕ) (s : List ℕ) → length s ≡ 512 * n → verifyBlocks n k s ≡ passed → (i : ℕ) → i < length (payloadOf n s)
+    → getD (payloadOf n s) i 0 ≡ getD s (placeOf i) 0
 unfolding payloadOf verifyBlocks
 payload-byte zero k s l e i h = absurd (not-suc-le-zero h)
 payload-byte (suc n) k s l e i h =
@@ -117,12 +120,14 @@ payload-byte (suc n) k s l e i h =
     full-used zero p h′ = absurd (not-suc-le-zero h′)
     full-used (suc m) p h′ = full-count n m p used
 
-    go : (t : Bool) → ltb i (wordAt s 2) ≡ t → ((i′ : ℕ) → i′ < length (payloadOf n (drop 512 s)) → getD (payloadOf n (drop 512 s)) i′ 0 ≡ getD (drop 512 s) (placeOf i′) 0)
+    go : (t : Bool) → ltb i (wordAt s 2) ≡ t
+        → ((i′ : ℕ) → i′ < length (payloadOf n (drop 512 s)) → getD (payloadOf n (drop 512 s)) i′ 0 ≡ getD (drop 512 s) (placeOf i′) 0)
         → getD (take (wordAt s 2) (drop 4 s) ++ payloadOf n (drop 512 s)) i 0 ≡ getD s (placeOf i) 0
     go true t ih =
         let b : i < wordAt s 2 = ltb-true _ _ t in
         let p : 4 + i ≡ placeOf i = omega (arith, small) in
-        List·getD-append (take (wordAt s 2) (drop 4 s)) (payloadOf n (drop 512 s)) 0 i (rw long b) ∙ getD-take (wordAt s 2) (drop 4 s) i 0 b ∙ getD-drop 4 s i 0 ∙ ap (λ (j : ℕ). getD s j 0) p
+        List·getD-append (take (wordAt s 2) (drop 4 s)) (payloadOf n (drop 512 s)) 0 i (rw long b) ∙ getD-take (wordAt s 2) (drop 4 s) i 0 b
+        ∙ getD-drop 4 s i 0 ∙ ap (λ (j : ℕ). getD s j 0) p
     go false t ih =
         let b : wordAt s 2 ≤ i = ltb-false _ _ t in
         let i′ : ℕ = i - wordAt s 2 in
@@ -154,7 +159,7 @@ module _ (n k : ℕ) (s : List ℕ) (l : 512 ≤ length s) (e : verifyBlocks (su
   first-length = length-take-le (wordAt s 2) (drop 4 s) (simp length-drop (omega (arith, first-small)))
 
 -- the length of a verified payload
-pub payload-length : (n k : ℕ) (s : List ℕ) → length s ≡ 512 * suc n → verifyBlocks (suc n) k s ≡ passed
+payload-length : (n k : ℕ) (s : List ℕ) → length s ≡ 512 * suc n → verifyBlocks (suc n) k s ≡ passed
     → (length (payloadOf (suc n) s) ≡ 504 * n + wordAt s (512 * n + 2)) × (wordAt s (512 * n + 2) ≤ 504)
 unfolding payloadOf
 payload-length zero k s l e =
@@ -167,8 +172,11 @@ payload-length (suc n) k s l e =
     let e₁ : 512 + (512 * n + 2) ≡ 512 * suc n + 2 = omega arith in
     let e₂ : 512 + (512 * n + 2 + 1) ≡ 512 * suc n + 2 + 1 = omega arith in
     let w : wordAt (drop 512 s) (512 * n + 2) ≡ wordAt s (512 * suc n + 2) =
-    rw (getD-drop 512 s (512 * n + 2) 0, getD-drop 512 s (512 * n + 2 + 1) 0, e₁, e₂) in
-    (rw (length-append (take (wordAt s 2) (drop 4 s)) (payloadOf (suc n) (drop 512 s)), long) (omega (arith, ih .0, w, full)), subst (λ (x : ℕ). x ≤ 504) w (ih .1))
+    rw (getD-drop 512 s (512 * n + 2) 0, getD-drop 512 s (512 * n + 2 + 1) 0, e₁, e₂) in (
+      rw (length-append (take (wordAt s 2) (drop 4 s)) (payloadOf (suc n) (drop 512 s)), long)
+          (omega (arith, ih .0, w, full)),
+      subst (λ (x : ℕ). x ≤ 504) w (ih .1),
+    )
 
 -- verified blocks: their length, the length of their payload, where a payload byte stands
 module _ (s : List ℕ) (e : verify s ≡ passed) where
@@ -185,7 +193,8 @@ module _ (s : List ℕ) (e : verify s ≡ passed) where
       let range = (and-eq-true-iff (leb 1 (length s)) (leb (length s) 32768)) .0 (both .0) in
       (eqb-true _ _ (both .1), leb-true _ _ (range .0), leb-true _ _ (range .1))
 
-  pub verified-length : (length (payload s) ≡ 504 * (length s / 512 - 1) + wordAt s (512 * (length s / 512 - 1) + 2)) × (length (payload s) ≤ 504 * (length s / 512)) × (length (payload s) ≤ 32256)
+  pub verified-length : (length (payload s) ≡ 504 * (length s / 512 - 1) + wordAt s (512 * (length s / 512 - 1) + 2))
+      × (length (payload s) ≤ 504 * (length s / 512)) × (length (payload s) ≤ 32256)
   unfolding payload
   verified-length =
       let m : ℕ = length s / 512 - 1 in
@@ -194,11 +203,13 @@ module _ (s : List ℕ) (e : verify s ≡ passed) where
       let g : length (payload s) ≡ length (payloadOf (suc m) s) = ap (λ (x : ℕ). length (payloadOf x s)) q in
       (g ∙ r .0, omega (arith, g, r .0, r .1), omega (arith, g, r .0, r .1, verified-whole))
 
-module _ {file : List ℕ} {n : ℕ} (o : Opened file n) where
-  pub opened-place : (k : ℕ) → k < n → placeOf k < length file
-  opened-place k h = omega (arith, o .long, verified-length file (o .verified) .1, verified-whole file (o .verified))
+module _ {file : List ℕ} (v : Verified file) where
+  pub verified-place : (k : ℕ) → k < length (payload file) → placeOf k < length file
+  verified-place k h = omega (arith, verified-length file (v .blocks) .1, verified-whole file (v .blocks))
 
   -- payload byte k, as it stands in the blocks
-  pub opened-byte : (k : ℕ) → k < n → getD file (placeOf k) 0 ≡ byteAt (payload file) k
+  pub verified-byte : (k : ℕ) → k < length (payload file) → getD file (placeOf k) 0 ≡ byteAt (payload file) k
   unfolding payload
-  opened-byte k h = sym (payload-byte (length file / 512) 0 file (omega (arith, verified-whole file (o .verified))) (verified-parts file (o .verified) .1) k (rw (o .long) at h))
+  verified-byte k h =
+      sym (payload-byte (length file / 512) 0 file (omega (arith, verified-whole file (v .blocks))) (verified-parts file (v .blocks) .1) k
+      h)

@@ -1,6 +1,7 @@
 pub mod ListLaws
 pub mod TriedLaws
 pub mod WalkLaws
+pub mod WalkingLaws
 pub mod RuleLaws
 pub mod FormLaws
 pub mod Models
@@ -10,6 +11,8 @@ pub mod MachineLaws
 pub mod Measures
 pub mod Amounts
 pub mod NumberedLaws
+pub mod AllLaws
+pub mod PassLaws
 pub mod RecordLaws
 pub mod Accepted
 pub mod ProgramLaws
@@ -21,6 +24,7 @@ pub mod RunLaws
 pub mod Promise
 pub mod ResultLaws
 pub mod ContainerLaws
+pub mod SumLaws
 pub mod OutcomeLaws
 pub mod Judgements
 pub mod MemoryLaws

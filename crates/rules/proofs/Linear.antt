@@ -20,12 +20,14 @@ use Rattle.rules.specs.Shapes.{Shape, withStack, splitVariable, branchOn
 use Rattle.rules.specs.Lists.{All, l[], _l∷_}
 use Rattle.rules.specs.Facts.{Plain}
 use Rattle.rules.proofs.ListLaws.{none-some, all-mapped}
-use Rattle.rules.proofs.RuleLaws.{shape-covered, shape-load, shape-build, shape-call, shape-branch, branch-none, branch-variable, branch-built, branch-called}
+use Rattle.rules.proofs.RuleLaws.{shape-covered, shape-load, shape-build, shape-call, shape-branch, branch-none, branch-variable}
+use Rattle.rules.proofs.RuleLaws.{branch-built, branch-called}
 use Rattle.rules.proofs.TriedLaws.{found-inj, each-found}
 use Rattle.rules.proofs.Accepted.{Passed, accepted}
 use Rattle.rules.proofs.ProgramLaws.{weight-heavy}
 use Rattle.rules.proofs.WalkLaws.{Brings, Walks, walks, walk-all}
-use Rattle.rules.proofs.Amounts.{one-at, amount, inAll, amounts-list, replaced-amount, replace-plain, plain-fresh, plain-trees, fresh-weightless, fresh-below, fresh-above, fresh-once}
+use Rattle.rules.proofs.Amounts.{one-at, amount, inAll, amounts-list, replaced-amount, replace-plain, plain-fresh, plain-trees}
+use Rattle.rules.proofs.Amounts.{fresh-weightless, fresh-below, fresh-above, fresh-once}
 
 ---- Shapes on the way
 
@@ -39,7 +41,7 @@ module _ (s : Program) (heavy : (c : ℕ) (k : Constructor) → constructor s c 
     pub few : x .count ≤ 16
 
   module _ (n : ℕ) (f : Function) where
-    pub start-tame : arity f ≤ 16 → Tame (startShape f)
+    start-tame : arity f ≤ 16 → Tame (startShape f)
     unfolding startShape
     start-tame h = record {
       plain = plain-fresh 0 (arity f);
@@ -49,28 +51,35 @@ module _ (s : Program) (heavy : (c : ℕ) (k : Constructor) → constructor s c 
       few = h;
     }
 
-    pub stack-tame : (x : Shape) (es : List Expression) → Tame x → Tame (withStack x es)
+    stack-tame : (x : Shape) (es : List Expression) → Tame x → Tame (withStack x es)
     stack-tame x es t = record { plain = t .plain; once = t .once; none-above = t .none-above; little = t .little; few = t .few }
 
-    pub split-tame : (x : Shape) (rest : List Expression) (v c : ℕ) (k : Constructor) → constructor s c ≡ some k → x .count + length (k .arguments) ≤ 16 → Tame x → Tame (splitVariable x rest v c (length (k .arguments)))
+    split-tame : (x : Shape) (rest : List Expression) (v c : ℕ) (k : Constructor) → constructor s c ≡ some k
+        → x .count + length (k .arguments) ≤ 16 → Tame x → Tame (splitVariable x rest v c (length (k .arguments)))
     unfolding splitVariable
     split-tame x rest v c k ck room t = record {
       plain = all-mapped (replace v new) (replace-plain v new (plain-trees (plain-fresh (x .count) (length (k .arguments))))) (t .plain);
       once = λ y. le-trans (grows 0 (one-at y)) (rw (amount-new 0 (one-at y)) (once-more y (leb (x .count) y) refl));
-      none-above = λ y h. le-trans (grows 0 (one-at y)) (rw (amount-new 0 (one-at y), fresh-above s y (x .count) (length (k .arguments)) h) (omega (arith, t .none-above y (le-trans (omega arith) h))));
+      none-above =
+          λ y h. le-trans (grows 0 (one-at y)) (rw (amount-new 0 (one-at y), fresh-above s y (x .count) (length (k .arguments)) h)
+          (omega (arith, t .none-above y (le-trans (omega arith) h))));
       little = le-trans (grows 1 (λ _. 0)) (rw (amount-new 1 (λ _. 0), fresh-weightless s 1 (x .count) (length (k .arguments)))
-          (weighs (inAll s 1 (λ _. 0) (x .parameters)) (inAll s 0 (one-at v) (x .parameters)) (k .weight) (x .count) (length (k .arguments)) (t .little) (t .once v) (heavy c k ck)));
+          (weighs (inAll s 1 (λ _. 0) (x .parameters)) (inAll s 0 (one-at v) (x .parameters)) (k .weight) (x .count) (length (k .arguments))
+          (t .little) (t .once v) (heavy c k ck)));
       few = room;
     }
       where
         new : Expression
         new = made (built c) (variables (x .count) (length (k .arguments)))
 
-        amount-new : (κ : ℕ) (w : ℕ → ℕ) → amount s κ w (made (built c) (variables (x .count) (length (k .arguments)))) ≡ κ * k .weight + inAll s κ w (variables (x .count) (length (k .arguments)))
+        amount-new : (κ : ℕ) (w : ℕ → ℕ) → amount s κ w (made (built c) (variables (x .count) (length (k .arguments))))
+            ≡ κ * k .weight + inAll s κ w (variables (x .count) (length (k .arguments)))
         amount-new κ w = rw (ck, amounts-list s κ w (variables (x .count) (length (k .arguments))))
 
-        grows : (κ : ℕ) (w : ℕ → ℕ) → inAll s κ w (map (replace v (made (built c) (variables (x .count) (length (k .arguments))))) (x .parameters))
-            ≤ inAll s κ w (x .parameters) + inAll s 0 (one-at v) (x .parameters) * amount s κ w (made (built c) (variables (x .count) (length (k .arguments))))
+        grows : (κ : ℕ) (w : ℕ → ℕ) → inAll s κ w (map (replace v (made (built c) (variables (x .count) (length (k .arguments)))))
+            (x .parameters))
+            ≤ inAll s κ w (x .parameters) + inAll s 0 (one-at v) (x .parameters) * amount s κ w
+            (made (built c) (variables (x .count) (length (k .arguments))))
         grows κ w = replaced-amount s κ w v (made (built c) (variables (x .count) (length (k .arguments)))) (x .parameters)
 
         weighs : (p q w a b : ℕ) → p ≤ 255 * a → q ≤ 1 → w ≤ 255 * b → p + q * (1 * w + 0) ≤ 255 * (a + b)
@@ -80,26 +89,32 @@ module _ (s : Program) (heavy : (c : ℕ) (k : Constructor) → constructor s c 
         new-once p q a hp hq ha = omega (arith, mul-le-mul hq ha)
 
         once-more : (y : ℕ) (b : Bool) → leb (x .count) y ≡ b
-            → inAll s 0 (one-at y) (x .parameters) + inAll s 0 (one-at v) (x .parameters) * (0 * k .weight + inAll s 0 (one-at y) (variables (x .count) (length (k .arguments)))) ≤ 1
+            → inAll s 0 (one-at y) (x .parameters) + inAll s 0 (one-at v)
+            (x .parameters) * (0 * k .weight + inAll s 0 (one-at y) (variables (x .count) (length (k .arguments)))) ≤ 1
         once-more y true e =
-            new-once (inAll s 0 (one-at y) (x .parameters)) (inAll s 0 (one-at v) (x .parameters)) (inAll s 0 (one-at y) (variables (x .count) (length (k .arguments))))
+            new-once (inAll s 0 (one-at y) (x .parameters)) (inAll s 0 (one-at v) (x .parameters))
+            (inAll s 0 (one-at y) (variables (x .count) (length (k .arguments))))
             (t .none-above y (leb-true _ _ e)) (t .once v) (fresh-once s y (x .count) (length (k .arguments)))
         once-more y false e = rw (fresh-below s y (x .count) (length (k .arguments)) (leb-false _ _ e)) (omega (arith, t .once y))
 
-    pub branch-tame : (i : ℕ) (x : Shape) (rest : List Expression) (c b : ℕ) (k : Constructor) → constructor s c ≡ some k → (es : List Expression) (M : List (Arrow Shape))
+    branch-tame : (i : ℕ) (x : Shape) (rest : List Expression) (c b : ℕ) (k : Constructor) → constructor s c ≡ some k
+        → (es : List Expression) (M : List (Arrow Shape))
         → branchOn s n f i x rest c (length (k .arguments)) b es ≡ found M → Tame x → All (Brings Tame) M
     branch-tame i x rest c b k ck [] M e t = absurd (branch-none s n f i x rest c (length (k .arguments)) b e)
     branch-tame i x rest c b k ck (node (variable v) ts ∷ more) M e t =
         let r = branch-variable s n f i x rest c (length (k .arguments)) b v ts more e in
         rw (r .1) (split-tame x rest v c k ck (r .0) t l∷ t l∷ l[])
-    branch-tame i x rest c b k ck (node (built d) ts ∷ more) M e t = rw (branch-built s n f i x rest c (length (k .arguments)) b d ts more e) (one (eqb d c))
+    branch-tame i x rest c b k ck (node (built d) ts ∷ more) M e t =
+        rw (branch-built s n f i x rest c (length (k .arguments)) b d ts more e) (one (eqb d c))
       where
         one : (y : Bool) → All (Brings Tame) ((if y then (suc i, withStack x (rest ++ toList ts)) else (b, x)) ∷ [])
         one true = stack-tame x (rest ++ toList ts) t l∷ l[]
         one false = t l∷ l[]
-    branch-tame i x rest c b k ck (node (called g) ts ∷ more) M e t = absurd (branch-called s n f i x rest c (length (k .arguments)) b g ts more e)
+    branch-tame i x rest c b k ck (node (called g) ts ∷ more) M e t =
+        absurd (branch-called s n f i x rest c (length (k .arguments)) b g ts more e)
 
-    pub from-tame : (i : ℕ) (ins : Instruction) (x : Shape) (M : List (Arrow Shape)) → shapeFrom s n f i ins x ≡ found M → Tame x → All (Brings Tame) M
+    from-tame : (i : ℕ) (ins : Instruction) (x : Shape) (M : List (Arrow Shape)) → shapeFrom s n f i ins x ≡ found M → Tame x
+        → All (Brings Tame) M
     unfolding shapeFrom
     from-tame i (Load a) x M e t = rw (shape-load s n f i a x e .2) (stack-tame x _ t l∷ l[])
     from-tame i (Build c) x M e t = rw (shape-build s n f i c x e .4) (stack-tame x _ t l∷ l[])
@@ -110,17 +125,22 @@ module _ (s : Program) (heavy : (c : ℕ) (k : Constructor) → constructor s c 
     from-tame i Return x M e t = rw (← found-inj e) l[]
     from-tame i Stop x M e t = rw (← found-inj e) l[]
 
-    pub rule-tame : (i : ℕ) (ins : Instruction) (x : Shape) (M : List (Arrow Shape)) → shapeRule s n f i ins x ≡ found M → Tame x → All (Brings Tame) M
+    rule-tame : (i : ℕ) (ins : Instruction) (x : Shape) (M : List (Arrow Shape)) → shapeRule s n f i ins x ≡ found M → Tame x
+        → All (Brings Tame) M
     rule-tame i ins x M e t = from-tame i ins x M (shape-covered s n f i ins x e .1) t
 
 module _ {bytes : List ℕ} {s : Program} (P : Passed bytes s) (small : All (λ b. b < 256) bytes) where
-  pub shapes-tame : (n : ℕ) (f : Function) → function s n ≡ some f → (i : ℕ) (x : Shape) → arrived (shapesOf s n f) i ≡ some x → Tame s (weight-heavy P small) x
+  pub shapes-tame : (n : ℕ) (f : Function) → function s n ≡ some f → (i : ℕ) (x : Shape) → arrived (shapesOf s n f) i ≡ some x
+      → Tame s (weight-heavy P small) x
   unfolding sizesRight shapesOf
   shapes-tame n f e i x h =
       let r = each-found (shapesOf s) 0 (s .functions) (P .shapes) n e in
       let is : shapesOf s n f ≡ found (r .0) = rw (zero-add n) at (r .1) in
       one (walks (visited (shapeRule s n f)) (f .code) 1 ((1, startShape f) ∷ []) is) i (rw is at h)
     where
-      one : {T : List (List Shape)} → Walks (visited (shapeRule s n f)) 1 ((1, startShape f) ∷ []) (f .code) T → (i : ℕ) → arrived (found T) i ≡ some x → Tame s (weight-heavy P small) x
-      one w zero e′ = absurd (none-some e′)
-      one w (suc d) e′ = walk-all (Tame s (weight-heavy P small)) (rule-tame s (weight-heavy P small) n f) w (start-tame s (weight-heavy P small) n f (accepted P n f e .few) l∷ l[]) d e′
+      one : {T : List (List Shape)} → Walks (visited (shapeRule s n f)) 1 ((1, startShape f) ∷ []) (f .code) T → (i : ℕ)
+          → arrived (found T) i ≡ some x → Tame s (weight-heavy P small) x
+      one w zero e′ = none-some e′
+      one w (suc d) e′ =
+          walk-all (Tame s (weight-heavy P small)) (rule-tame s (weight-heavy P small) n f) w
+          (start-tame s (weight-heavy P small) n f (accepted P n f e .few) l∷ l[]) d e′

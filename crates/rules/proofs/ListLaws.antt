@@ -3,7 +3,7 @@ use mathlib.Core.Path.{_≡_, refl, sym, ap, _∙_}
 use mathlib.Core.List.{List, [], _∷_, _++_, map}
 use mathlib.Core.Option.{Option, none, some}
 use mathlib.Core.Bool.{Bool, true, false, _&&_, _||_, and-eq-true-iff}
-use Prim.Native.Nat.{ℕ, zero, suc, _-_, _≤_}
+use Prim.Native.Nat.{ℕ, zero, suc, _-_, _≤_, _<_, zero-le, suc-le-suc}
 use native.Mathlib.Omega.{arith}
 use lib.ListN.{length, take, drop, getElem?, getD}
 use lib.Dec.{leb}
@@ -12,8 +12,13 @@ use Rattle.rules.specs.Base.{all, any, if_then_else_}
 use Rattle.rules.specs.Stacks.{slot, split}
 use Rattle.rules.specs.Lists.{All, l[], _l∷_, Any, here, there, All2, a[], _a∷_}
 
-pub none-some : {A : Type 0} {v : A} → _≡_ {A = Option A} none (some v) → ⊥
-none-some p = let z : _≡_ {A = ℕ} 0 1 = cc in omega arith
+pub none-some : {A : Type 0} {v : A} {P : Type 0} → _≡_ {A = Option A} none (some v) → P
+none-some p = let z : _≡_ {A = ℕ} 0 1 = cc in absurd (omega arith)
+
+pub at-less : {A : Type 0} (l : List A) (k : ℕ) {v : A} → getElem? l k ≡ some v → k < length l
+at-less [] k e = none-some e
+at-less (y ∷ l) zero e = suc-le-suc zero-le
+at-less (y ∷ l) (suc k) e = suc-le-suc (at-less l k e)
 
 pub some-inj : {A : Type 0} {v w : A} → _≡_ {A = Option A} (some v) (some w) → v ≡ w
 some-inj p = cc
@@ -40,18 +45,19 @@ module _ {A B : Type 0} {R : A → B → Type 0} where
   all2-drop (suc k) a[] = a[]
   all2-drop (suc k) (r a∷ p) = all2-drop k p
 
-  pub all2-at : (n : ℕ) {xs : List A} {ys : List B} {y : B} → All2 R xs ys → getElem? ys n ≡ some y → (x : A) × (getElem? xs n ≡ some x) × R x y
-  all2-at n a[] e = absurd (none-some e)
+  all2-at : (n : ℕ) {xs : List A} {ys : List B} {y : B} → All2 R xs ys → getElem? ys n ≡ some y → (x : A) × (getElem? xs n ≡ some x) × R x y
+  all2-at n a[] e = none-some e
   all2-at zero (_a∷_ {x} r p) e = (x, refl, (rw (some-inj e) at r))
   all2-at (suc n) (r a∷ p) e = all2-at n p e
 
   -- where the second has a slot, so has the first, and the two are related
   pub all2-slot : (n : ℕ) {xs : List A} {ys : List B} {y : B} → All2 R xs ys → slot n ys ≡ some y → (x : A) × (slot n xs ≡ some x) × R x y
-  all2-slot zero p e = absurd (none-some e)
+  all2-slot zero p e = none-some e
   all2-slot (suc n) p e = all2-at n p e
 
 -- the parts of a split that is there
-pub split-parts : {A : Type 0} (n : ℕ) (xs : List A) {p : List A × List A} → split n xs ≡ some p → (n ≤ length xs) × (p ≡ (take (length xs - n) xs, drop (length xs - n) xs))
+pub split-parts : {A : Type 0} (n : ℕ) (xs : List A) {p : List A × List A} → split n xs ≡ some p → (n ≤ length xs)
+    × (p ≡ (take (length xs - n) xs, drop (length xs - n) xs))
 unfolding split
 split-parts {A} n xs {p} e = go (leb n (length xs)) refl e
   where
@@ -59,7 +65,7 @@ split-parts {A} n xs {p} e = go (leb n (length xs)) refl e
         → _≡_ {A = Option (List A × List A)} (if t then some (take (length xs - n) xs, drop (length xs - n) xs) else none) (some p)
         → (n ≤ length xs) × (p ≡ (take (length xs - n) xs, drop (length xs - n) xs))
     go true h e = (leb-true n (length xs) h, cc)
-    go false h e = absurd (none-some e)
+    go false h e = none-some e
 
 module _ {A B : Type 0} {R : A → B → Type 0} where
   -- where the second can be split, so can the first
@@ -71,7 +77,8 @@ module _ {A B : Type 0} {R : A → B → Type 0} where
       k : ℕ
       k = length ys - n
 
-      go : (t : Bool) → leb n (length ys) ≡ t → _≡_ {A = Option (List B × List B)} (if t then some (take (length ys - n) ys, drop (length ys - n) ys) else none) (some q)
+      go : (t : Bool) → leb n (length ys) ≡ t
+          → _≡_ {A = Option (List B × List B)} (if t then some (take (length ys - n) ys, drop (length ys - n) ys) else none) (some q)
           → (p : List A × List A) × (split n xs ≡ some p) × All2 R (p .0) (q .0) × All2 R (p .1) (q .1)
       go true h e =
           let eq : (take (length ys - n) ys, drop (length ys - n) ys) ≡ q = some-inj e in (
@@ -80,7 +87,7 @@ module _ {A B : Type 0} {R : A → B → Type 0} where
             rw (← ap (λ (z : List B × List B). z .0) eq) (all2-take (length ys - n) p),
             rw (← ap (λ (z : List B × List B). z .1) eq) (all2-drop (length ys - n) p),
           )
-      go false h e = absurd (none-some e)
+      go false h e = none-some e
 
 module _ {A B : Type 0} {R : A → B → Type 0} where
   pub all2-slots : (n : ℕ) {xs : List A} {ys : List B} {x : A} {y : B} → All2 R xs ys → slot n xs ≡ some x → slot n ys ≡ some y → R x y
@@ -88,18 +95,16 @@ module _ {A B : Type 0} {R : A → B → Type 0} where
       let r = all2-slot n p e′ in
       rw (some-inj (sym (r .1) ∙ e)) at (r .2)
 
-  pub all2-splits : (n : ℕ) {xs : List A} {ys : List B} {p : List A × List A} {q : List B × List B} → All2 R xs ys → split n xs ≡ some p → split n ys ≡ some q → All2 R (p .0) (q .0) × All2 R (p .1) (q .1)
+  pub all2-splits : (n : ℕ) {xs : List A} {ys : List B} {p : List A × List A} {q : List B × List B} → All2 R xs ys → split n xs ≡ some p
+      → split n ys ≡ some q → All2 R (p .0) (q .0) × All2 R (p .1) (q .1)
   all2-splits n a e e′ =
       let r = all2-split n a e′ in
       let same = some-inj (sym (r .1) ∙ e) in
       ((rw same at (r .2)), (rw same at (r .3)))
 
-pub all2-map : {A B : Type 0} {R Q : A → B → Type 0} → ((x : A) (y : B) → R x y → Q x y) → {xs : List A} {ys : List B} → All2 R xs ys → All2 Q xs ys
-all2-map f a[] = a[]
-all2-map f (_a∷_ {x} {y} r p) = f x y r a∷ all2-map f p
-
 -- the first by a map, the second by another
-pub all2-maps : {A B C D : Type 0} {R : A → B → Type 0} {Q : C → D → Type 0} (g : A → C) (h : B → D) → ((x : A) (y : B) → R x y → Q (g x) (h y)) → {xs : List A} {ys : List B} → All2 R xs ys → All2 Q (map g xs) (map h ys)
+pub all2-maps : {A B C D : Type 0} {R : A → B → Type 0} {Q : C → D → Type 0} (g : A → C) (h : B → D)
+    → ((x : A) (y : B) → R x y → Q (g x) (h y)) → {xs : List A} {ys : List B} → All2 R xs ys → All2 Q (map g xs) (map h ys)
 all2-maps g h f a[] = a[]
 all2-maps g h f (_a∷_ {x} {y} r p) = f x y r a∷ all2-maps g h f p
 
@@ -121,7 +126,7 @@ all-append l[] q = q
 all-append (p l∷ ps) q = p l∷ all-append ps q
 
 pub all-at : {A : Type 0} {P : A → Type 0} {xs : List A} (n : ℕ) {x : A} → All P xs → getElem? xs n ≡ some x → P x
-all-at n l[] e = absurd (none-some e)
+all-at n l[] e = none-some e
 all-at zero (p l∷ ps) e = rw (some-inj e) at p
 all-at (suc n) (p l∷ ps) e = all-at n ps e
 
@@ -158,12 +163,14 @@ all-two e h = one (rw e at h)
     one (p l∷ q l∷ l[]) = (p, q)
 
 -- related, and more is known of the first
-pub all2-also : {A B : Type 0} {R : A → B → Type 0} {P : A → Type 0} {xs : List A} {ys : List B} → All2 R xs ys → All P xs → All2 (λ x y. R x y × P x) xs ys
+pub all2-also : {A B : Type 0} {R : A → B → Type 0} {P : A → Type 0} {xs : List A} {ys : List B} → All2 R xs ys → All P xs
+    → All2 (λ x y. R x y × P x) xs ys
 all2-also a[] l[] = a[]
 all2-also (r a∷ p) (q l∷ qs) = (r, q) a∷ all2-also p qs
 
 -- what is related to what all have
-pub all-from : {A B : Type 0} {R : A → B → Type 0} {P : A → Type 0} {Q : B → Type 0} → ((x : A) (y : B) → R x y → Q y → P x) → {xs : List A} {ys : List B} → All2 R xs ys → All Q ys → All P xs
+pub all-from : {A B : Type 0} {R : A → B → Type 0} {P : A → Type 0} {Q : B → Type 0} → ((x : A) (y : B) → R x y → Q y → P x)
+    → {xs : List A} {ys : List B} → All2 R xs ys → All Q ys → All P xs
 all-from g a[] l[] = l[]
 all-from g (_a∷_ {x} {y} r p) (q l∷ qs) = g x y r q l∷ all-from g p qs
 
@@ -184,11 +191,13 @@ pub any-append-right : {A : Type 0} {P : A → Type 0} (xs : List A) {ys : List 
 any-append-right [] p = p
 any-append-right (x ∷ xs) p = there (any-append-right xs p)
 
-pub any-mapped : {A B : Type 0} {P : A → Type 0} {Q : B → Type 0} (g : A → B) → ((x : A) → P x → Q (g x)) → {xs : List A} → Any P xs → Any Q (map g xs)
+pub any-mapped : {A B : Type 0} {P : A → Type 0} {Q : B → Type 0} (g : A → B) → ((x : A) → P x → Q (g x)) → {xs : List A} → Any P xs
+    → Any Q (map g xs)
 any-mapped g f (here {x} p) = here (f x p)
 any-mapped g f (there p) = there (any-mapped g f p)
 
-pub all-mapped : {A B : Type 0} {P : A → Type 0} {Q : B → Type 0} (g : A → B) → ((x : A) → P x → Q (g x)) → {xs : List A} → All P xs → All Q (map g xs)
+pub all-mapped : {A B : Type 0} {P : A → Type 0} {Q : B → Type 0} (g : A → B) → ((x : A) → P x → Q (g x)) → {xs : List A} → All P xs
+    → All Q (map g xs)
 all-mapped g f l[] = l[]
 all-mapped g f (_l∷_ {x} p ps) = f x p l∷ all-mapped g f ps
 

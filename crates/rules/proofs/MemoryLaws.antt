@@ -15,10 +15,12 @@ module _ (file : List ℕ) (entry : ℕ) (bytes : List ℕ) (lent : Lent) where
   unfolding begun
   begun-not-checked e = rw e
 
-  pub begun-not-loaded : {s : Program} {r : Refusal} → checked file ≡ found s → loaded s (usable lent) entry bytes ≡ refused r → begun file entry bytes lent ≡ false
+  pub begun-not-loaded : {s : Program} {r : Refusal} → checked file ≡ found s → loaded s (usable lent) entry bytes ≡ refused r
+      → begun file entry bytes lent ≡ false
   unfolding begun
   begun-not-loaded e w = rw (e, w)
 
-  pub begun-loaded : {s : Program} {st : State} → checked file ≡ found s → loaded s (usable lent) entry bytes ≡ found st → begun file entry bytes lent ≡ true
+  pub begun-loaded : {s : Program} {st : State} → checked file ≡ found s → loaded s (usable lent) entry bytes ≡ found st
+      → begun file entry bytes lent ≡ true
   unfolding begun
   begun-loaded e w = rw (e, w)

@@ -3,7 +3,7 @@ use mathlib.Core.Path.{_≡_, refl, sym, ap, _∙_}
 use mathlib.Core.List.{List, [], _∷_, _++_, map, append-assoc}
 use mathlib.Core.Option.{some}
 use mathlib.Core.Bool.{Bool, true, false}
-use Prim.Native.Nat.{ℕ, zero, suc, _+_, _≤_, _<_, zero-le, suc-le-suc}
+use Prim.Native.Nat.{ℕ, zero, suc, _+_, _≤_}
 use native.Mathlib.Omega.{arith}
 use native.Mathlib.Nat.{le-trans, le-of-eq}
 use lib.ListN.{length, getD, getElem?, replicate, length-map, length-append}
@@ -17,27 +17,22 @@ use Rattle.rules.specs.Expressions.{Symbol, variable, built, called, Exp
 use Rattle.rules.specs.Forms.{variableOnly, formOf, formsOf, builtForm, calledForm}
 use Rattle.rules.specs.Lists.{l[], _l∷_, here, All2, a[], _a∷_}
 use Rattle.rules.specs.Values.{size, sizeOfAll, sizes, AllHave, Typed, dot, valueAt}
-use Rattle.rules.proofs.ListLaws.{none-some, some-inj}
+use Rattle.rules.proofs.ListLaws.{none-some, some-inj, at-less}
 use Rattle.rules.proofs.FormLaws.{Under, Over, total, dot-ones, variable-value, substituted-under, substituted-over, into-under}
 
 ---- Lists
 
-pub at-less : {A : Type 0} (l : List A) (k : ℕ) {v : A} → getElem? l k ≡ some v → k < length l
-at-less [] k e = absurd (none-some e)
-at-less (y ∷ l) zero e = suc-le-suc zero-le
-at-less (y ∷ l) (suc k) e = suc-le-suc (at-less l k e)
-
-pub at-append : {A : Type 0} (l m : List A) (k : ℕ) {v : A} → getElem? l k ≡ some v → getElem? (l ++ m) k ≡ some v
-at-append [] m k e = absurd (none-some e)
+at-append : {A : Type 0} (l m : List A) (k : ℕ) {v : A} → getElem? l k ≡ some v → getElem? (l ++ m) k ≡ some v
+at-append [] m k e = none-some e
 at-append (x ∷ l) m zero e = e
 at-append (x ∷ l) m (suc k) e = at-append l m k e
 
-pub at-end : {A : Type 0} (l m : List A) (v : A) → getElem? (l ++ v ∷ m) (length l) ≡ some v
+at-end : {A : Type 0} (l m : List A) (v : A) → getElem? (l ++ v ∷ m) (length l) ≡ some v
 at-end [] m v = refl
 at-end (x ∷ l) m v = at-end l m v
 
 at-mapped : {A : Type 0} (f : A → ℕ) (l : List A) (k : ℕ) {v : A} → getElem? l k ≡ some v → getD (map f l) k 0 ≡ f v
-at-mapped f [] k e = absurd (none-some e)
+at-mapped f [] k e = none-some e
 at-mapped f (y ∷ l) zero e = ap f (some-inj e)
 at-mapped f (y ∷ l) (suc k) e = at-mapped f l k e
 
@@ -67,10 +62,12 @@ abbrev pub Light : Program → Type 0
 Light s = (c : ℕ) (k : Constructor) → constructor s c ≡ some k → length (k .arguments) ≡ 0 → k .weight ≡ 0
 
 -- the size of a value as the build's bound has it: coefficients 1 and the weight
-pub size-made : (s : Program) → Light s → (c : ℕ) (k : Constructor) → constructor s c ≡ some k → (vs : Trees ℕ) → length (toList vs) ≡ length (k .arguments)
+size-made : (s : Program) → Light s → (c : ℕ) (k : Constructor) → constructor s c ≡ some k → (vs : Trees ℕ)
+    → length (toList vs) ≡ length (k .arguments)
     → size s (node c vs) ≡ k .weight + dot (replicate (length (k .arguments)) 1) (sizes s (toList vs))
 size-made s light c k e vs len =
-    one vs len ∙ ap (λ (n : ℕ). k .weight + n) (size-total s vs ∙ sym (dot-ones (length (k .arguments)) (sizes s (toList vs)) (length-map (toList vs) (size s) ∙ len)))
+    one vs len ∙ ap (λ (n : ℕ). k .weight + n)
+    (size-total s vs ∙ sym (dot-ones (length (k .arguments)) (sizes s (toList vs)) (length-map (toList vs) (size s) ∙ len)))
   where
     one : (vs : Trees ℕ) → length (toList vs) ≡ length (k .arguments) → size s (node c vs) ≡ k .weight + sizeOfAll s vs
     one nil len = omega (arith, light c k e (sym len))
@@ -84,23 +81,26 @@ module _ (s : Program) where
     pub Models : Type 0 → List Value → Value → Expression → Type 0
     Models C ρ v (node (variable k) ts) = getElem? ρ k ≡ some v
     Models C ρ v (node (built c) ts) =
-        (vs : Trees ℕ) × (v ≡ node c vs) × (k : Constructor) × (constructor s c ≡ some k) × (length (toList vs) ≡ length (k .arguments)) × ModelsAll C ρ ts (toList vs)
+        (vs : Trees ℕ) × (v ≡ node c vs) × (k : Constructor) × (constructor s c ≡ some k) × (length (toList vs) ≡ length (k .arguments))
+        × ModelsAll C ρ ts (toList vs)
     Models C ρ v (node (called g) ts) =
         (us : List Value) × C × (f : Function) × (function s g ≡ some f) × Under (sizes s us) (size s v) (f .bound) × ModelsAll C ρ ts us
 
-    pub ModelsAll : Type 0 → List Value → Trees Symbol → List Value → Type 0
+    ModelsAll : Type 0 → List Value → Trees Symbol → List Value → Type 0
     ModelsAll C ρ nil [] = Unit {0}
     ModelsAll C ρ nil (v ∷ vs) = ⊥
     ModelsAll C ρ (cons t ts) [] = ⊥
     ModelsAll C ρ (cons t ts) (v ∷ vs) = Models C ρ v t × ModelsAll C ρ ts vs
 
-  pub models-list : {C : Type 0} {ρ : List Value} (ts : Trees Symbol) (vs : List Value) → ModelsAll C ρ ts vs → All2 (Models C ρ) vs (toList ts)
+  pub models-list : {C : Type 0} {ρ : List Value} (ts : Trees Symbol) (vs : List Value) → ModelsAll C ρ ts vs
+      → All2 (Models C ρ) vs (toList ts)
   models-list nil [] h = a[]
   models-list nil (v ∷ vs) h = absurd h
   models-list (cons t ts) [] h = absurd h
   models-list (cons t ts) (v ∷ vs) h = h .0 a∷ models-list ts vs (h .1)
 
-  pub models-trees : {C : Type 0} {ρ : List Value} {vs : List Value} {es : List Expression} → All2 (Models C ρ) vs es → ModelsAll C ρ (fromList es) vs
+  pub models-trees : {C : Type 0} {ρ : List Value} {vs : List Value} {es : List Expression} → All2 (Models C ρ) vs es
+      → ModelsAll C ρ (fromList es) vs
   models-trees a[] = tt
   models-trees (h a∷ hs) = (h, models-trees hs)
 
@@ -116,17 +116,20 @@ module _ (s : Program) where
       models-under (node (variable k) ts) v h = here {x = variableOnly k} (le-of-eq (sym (variable-size k v h)))
       models-under (node (built c) ts) v h =
           rw (h .3, h .1, size-made s light c (h .2) (h .3) (h .0) (h .4))
-          (substituted-under (sizes s ρ) (replicate (length (h .2 .arguments)) 1) (h .2 .weight) (models-under-all ts (toList (h .0)) (h .5)))
-      models-under (node (called g) ts) v h = rw (h .3) (into-under (sizes s ρ) (h .2 .bound) (size s v) (models-under-all ts (h .0) (h .5)) (h .4))
+          (substituted-under (sizes s ρ) (replicate (length (h .2 .arguments)) 1) (h .2 .weight)
+          (models-under-all ts (toList (h .0)) (h .5)))
+      models-under (node (called g) ts) v h =
+          rw (h .3) (into-under (sizes s ρ) (h .2 .bound) (size s v) (models-under-all ts (h .0) (h .5)) (h .4))
 
-      pub models-under-all : (ts : Trees Symbol) (vs : List Value) → ModelsAll C ρ ts vs → All2 (Under (sizes s ρ)) (sizes s vs) (formsOf s ts)
+      models-under-all : (ts : Trees Symbol) (vs : List Value) → ModelsAll C ρ ts vs → All2 (Under (sizes s ρ)) (sizes s vs) (formsOf s ts)
       models-under-all nil [] h = a[]
       models-under-all nil (v ∷ vs) h = absurd h
       models-under-all (cons t ts) [] h = absurd h
       models-under-all (cons t ts) (v ∷ vs) h = models-under t v (h .0) a∷ models-under-all ts vs (h .1)
 
     -- what is under the bound at the arguments is under the form of the call
-    pub called-under : (g : ℕ) (f : Function) → function s g ≡ some f → (ts : Trees Symbol) (us : List Value) → ModelsAll C ρ ts us → (n : ℕ) → Under (sizes s us) n (f .bound) → Under (sizes s ρ) n (formOf s (node (called g) ts))
+    pub called-under : (g : ℕ) (f : Function) → function s g ≡ some f → (ts : Trees Symbol) (us : List Value) → ModelsAll C ρ ts us
+        → (n : ℕ) → Under (sizes s us) n (f .bound) → Under (sizes s ρ) n (formOf s (node (called g) ts))
     unfolding formOf calledForm
     called-under g f e ts us h n u = rw e (into-under (sizes s ρ) (f .bound) n (models-under-all ts us h) u)
 
@@ -142,18 +145,19 @@ module _ (s : Program) where
           (substituted-over (sizes s ρ) (replicate (length (h .2 .arguments)) 1) (h .2 .weight) (models-over-all ts (toList (h .0)) (h .5)))
       models-over (node (called g) ts) v h = absurd (h .1)
 
-      pub models-over-all : (ts : Trees Symbol) (vs : List Value) → ModelsAll ⊥ ρ ts vs → All2 (Over (sizes s ρ)) (sizes s vs) (formsOf s ts)
+      models-over-all : (ts : Trees Symbol) (vs : List Value) → ModelsAll ⊥ ρ ts vs → All2 (Over (sizes s ρ)) (sizes s vs) (formsOf s ts)
       models-over-all nil [] h = a[]
       models-over-all nil (v ∷ vs) h = absurd h
       models-over-all (cons t ts) [] h = absurd h
       models-over-all (cons t ts) (v ∷ vs) h = models-over t v (h .0) a∷ models-over-all ts vs (h .1)
 
   -- an expression for a variable, and values for more variables
-  module _ (C : Type 0) (ρ more : List Value) (k : ℕ) (w : Value) (at-k : getElem? ρ k ≡ some w) (e′ : Expression) (is : Models C (ρ ++ more) w e′) where
+  module _ (C : Type 0) (ρ more : List Value) (k : ℕ) (w : Value) (at-k : getElem? ρ k ≡ some w) (e′ : Expression)
+      (is : Models C (ρ ++ more) w e′) where
     mutual
       unfolding replace
 
-      pub models-replace : (e : Expression) (v : Value) → Models C ρ v e → Models C (ρ ++ more) v (replace k e′ e)
+      models-replace : (e : Expression) (v : Value) → Models C ρ v e → Models C (ρ ++ more) v (replace k e′ e)
       models-replace (node (variable j) ts) v h = one (eqb j k) refl
         where
           one : (b : Bool) → eqb j k ≡ b → Models C (ρ ++ more) v (if b then e′ else node (variable j) ts)
@@ -162,13 +166,14 @@ module _ (s : Program) where
       models-replace (node (built c) ts) v h = (h .0, h .1, h .2, h .3, h .4, models-replace-all ts (toList (h .0)) (h .5))
       models-replace (node (called g) ts) v h = (h .0, h .1, h .2, h .3, h .4, models-replace-all ts (h .0) (h .5))
 
-      pub models-replace-all : (ts : Trees Symbol) (vs : List Value) → ModelsAll C ρ ts vs → ModelsAll C (ρ ++ more) (replaceAll k e′ ts) vs
+      models-replace-all : (ts : Trees Symbol) (vs : List Value) → ModelsAll C ρ ts vs → ModelsAll C (ρ ++ more) (replaceAll k e′ ts) vs
       models-replace-all nil [] h = tt
       models-replace-all nil (v ∷ vs) h = absurd h
       models-replace-all (cons t ts) [] h = absurd h
       models-replace-all (cons t ts) (v ∷ vs) h = (models-replace t v (h .0), models-replace-all ts vs (h .1))
 
-    pub models-replaced : {vs : List Value} {es : List Expression} → All2 (Models C ρ) vs es → All2 (Models C (ρ ++ more)) vs (map (replace k e′) es)
+    pub models-replaced : {vs : List Value} {es : List Expression} → All2 (Models C ρ) vs es
+        → All2 (Models C (ρ ++ more)) vs (map (replace k e′) es)
     models-replaced a[] = a[]
     models-replaced (_a∷_ {x} {y} h hs) = models-replace y x h a∷ models-replaced hs
 

@@ -1,11 +1,10 @@
 -- Lists and checks by number: `numbered`, `forEach`, `each`.
 use mathlib.Core.Path.{_≡_, refl, ap, _∙_, subst}
-use mathlib.Core.List.{List, [], _∷_}
 use mathlib.Core.Option.{none, some}
 use Prim.Native.Nat.{ℕ, zero, suc, _+_, _-_, _≤_, _<_}
 use native.Mathlib.Omega.{arith}
 use native.Mathlib.Numerals.{add-one}
-use native.Mathlib.Nat.{zero-add, not-suc-le-zero, add-suc, suc-add, add-zero, le-refl}
+use native.Mathlib.Nat.{zero-add, not-suc-le-zero, add-suc, suc-add, add-zero}
 use lib.ListN.{length, getElem?}
 use Rattle.rules.specs.Base.{Refusal, Tried, found, refused, _>>=_, Check, passed, only, numbered, forEach, each}
 use Rattle.rules.specs.Lists.{All, l[], _l∷_}
@@ -37,7 +36,8 @@ module _ {A : Type 0} (f : ℕ → A) where
       l∷ numbered-all n (suc k) (λ i l. subst (λ (j : ℕ). P (f j)) (add-suc k i ∙ (rw (suc-add k i) refl)) (h (suc i) (omega arith)))
 
 -- a rule over a numbered list is the rule at each number
-pub each-numbered : {A B : Type 0} (rule : ℕ → A → Tried B) (f : ℕ → A) (n k : ℕ) → each rule k (numbered f k n) ≡ forEach (λ i. only (rule i (f i))) k n
+pub each-numbered : {A B : Type 0} (rule : ℕ → A → Tried B) (f : ℕ → A) (n k : ℕ)
+    → each rule k (numbered f k n) ≡ forEach (λ i. only (rule i (f i))) k n
 unfolding each numbered forEach
 each-numbered rule f zero k = refl
 each-numbered {B = B} rule f (suc n) k = go (rule k (f k)) (each-numbered rule f n (suc k))
@@ -49,7 +49,7 @@ each-numbered {B = B} rule f (suc n) k = go (rule k (f k)) (each-numbered rule f
 
 module _ (rule : ℕ → Check) where
   -- the check of number k of n and of those behind it
-  pub forEach-step : (n k : ℕ) → k < n → forEach rule k (n - k) ≡ (rule k >>= (λ _. forEach rule (k + 1) (n - (k + 1))))
+  forEach-step : (n k : ℕ) → k < n → forEach rule k (n - k) ≡ (rule k >>= (λ _. forEach rule (k + 1) (n - (k + 1))))
   unfolding forEach
   forEach-step n k h =
       let e : n - k ≡ suc (n - (k + 1)) = omega arith in
@@ -69,7 +69,9 @@ module _ (rule : ℕ → Check) where
   unfolding forEach
   forEach-all zero k e i h = absurd (not-suc-le-zero h)
   forEach-all (suc n) k e zero h = rw add-zero (bind-found (rule k) _ e .1)
-  forEach-all (suc n) k e (suc i) h = let r : k + suc i ≡ suc k + i = omega arith in rw r (forEach-all n (suc k) (bind-found (rule k) _ e .2) i (omega arith))
+  forEach-all (suc n) k e (suc i) h =
+      let r : k + suc i ≡ suc k + i = omega arith in
+      rw r (forEach-all n (suc k) (bind-found (rule k) _ e .2) i (omega arith))
 
   -- where all pass, each does
   pub forEach-at : (n : ℕ) {u : Unit {0}} → forEach rule 0 n ≡ found u → (i : ℕ) → i < n → rule i ≡ passed

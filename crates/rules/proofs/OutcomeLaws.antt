@@ -1,22 +1,19 @@
--- One law for each outcome of each rule: where it passes, what it hands on; where it refuses, which number.
-use mathlib.Core.Path.{_≡_, refl, ap, _∙_}
+-- One law for each outcome of a rule that passes: what it hands on.
+use mathlib.Core.Path.{_≡_, refl}
 use mathlib.Core.List.{List, [], _∷_, _++_}
-use mathlib.Core.Option.{Option, none, some}
-use mathlib.Core.Bool.{Bool, true, false, not, _&&_}
-use Prim.Native.Nat.{ℕ, suc, _+_, _-_, _≤_, _<_}
+use mathlib.Core.Option.{some}
+use mathlib.Core.Bool.{true}
+use Prim.Native.Nat.{ℕ, suc, _+_, _-_, _≤_}
 use native.Mathlib.Omega.{arith}
-use lib.ListN.{length, take, drop, length-append}
+use lib.ListN.{length, length-append}
 use lib.Seq.{take-append-seam, drop-append-seam}
-use lib.Dec.{leb, ltb, eqb}
-use borrow.Author.Tests.{le-leb, lt-leb, lt-ltb, le-ltb, eq-eqb, ne-eqb}
+use borrow.Author.Tests.{le-leb, eq-eqb, ne-eqb}
 use Rattle.rules.specs.declared.records.Instruction.{Instruction}
 use Rattle.rules.specs.declared.records.Instruction.the-variants.{Load, Build, Call, Branch, Return, Stop}
-use Rattle.rules.specs.Base.{refusal, Tried, found, refused, _>>=_, require, within, if_then_else_}
+use Rattle.rules.specs.Base.{found, _>>=_}
 use Rattle.rules.specs.Program.{Constructor, Function, Program, constructor, function}
 use Rattle.rules.specs.Tree.{Trees, node, toList, made}
 use Rattle.rules.specs.Stacks.{slot, split, push}
-use Rattle.rules.specs.Walk.{Arrow}
-use Rattle.rules.specs.Flow.{flowOn, flowFrom, flowRule}
 use Rattle.rules.specs.Types.{same, below, typesOn, typeRule}
 use Rattle.rules.specs.Expressions.{Symbol, variable, built, called, Expression}
 use Rattle.rules.specs.Forms.{formOf}
@@ -30,48 +27,9 @@ split-append xs ys =
     let l : length (xs ++ ys) - length ys ≡ length xs = omega (arith, length-append xs ys) in
     rw (le-leb (length ys) (length (xs ++ ys)) (omega (arith, length-append xs ys)), l, take-append-seam xs ys, drop-append-seam xs ys)
 
-pub split-short : {A : Type 0} (k : ℕ) (xs : List A) → length xs < k → split k xs ≡ none
-unfolding split
-split-short k xs h = rw (lt-leb k (length xs) h)
-
----- 7
-
-module _ (n last : ℕ) where
-  pub flow-on : (i : ℕ) (past : Bool) → i < last → flowOn n last i past ≡ found ((suc i, past) ∷ [])
-  unfolding flowOn
-  flow-on i past h = rw (lt-ltb i last h)
-
-  pub flow-end : (i : ℕ) (past : Bool) → last ≤ i → flowOn n last i past ≡ refused (refusal 7 n i)
-  unfolding flowOn
-  flow-end i past h = rw (le-ltb i last h)
-
-  pub flow-fork : (i c b : ℕ) → i + 2 ≤ b → b ≤ last → flowFrom n last i (Branch c b) false ≡ found ((suc i, false) ∷ (b, false) ∷ [])
-  unfolding flowFrom
-  flow-fork i c b lo hi = rw (le-leb (i + 2) b lo, le-leb b last hi)
-
-  pub flow-low : (i c b : ℕ) (past : Bool) → b < i + 2 → flowFrom n last i (Branch c b) past ≡ refused (refusal 7 n i)
-  unfolding flowFrom
-  flow-low i c b past h = rw (lt-leb (i + 2) b h)
-
-  pub flow-past : (i c b : ℕ) → flowFrom n last i (Branch c b) true ≡ refused (refusal 7 n i)
-  unfolding flowFrom
-  flow-past i c b = one (within (i + 2) last b) ((suc i, true) ∷ (b, true) ∷ [])
-    where
-      one : (t : Bool) (L : List (Arrow Bool)) → (require (t && false) (refusal 7 n i) >>= (λ _. found L)) ≡ refused (refusal 7 n i)
-      one true L = refl
-      one false L = refl
-
-  pub flow-none : (i : ℕ) (ins : Instruction) → flowRule n last i ins [] ≡ refused (refusal 7 n i)
-  unfolding flowRule
-  flow-none i ins = refl
-
-  pub flow-many : (i : ℕ) (ins : Instruction) (p q : Bool) (more : List Bool) → flowRule n last i ins (p ∷ q ∷ more) ≡ refused (refusal 7 n i)
-  unfolding flowRule
-  flow-many i ins p q more = refl
-
 ---- 8
 
-pub same-refl : (xs : List ℕ) → same xs xs ≡ true
+same-refl : (xs : List ℕ) → same xs xs ≡ true
 unfolding same
 same-refl [] = refl
 same-refl (x ∷ xs) = rw (eq-eqb x x refl, same-refl xs)
@@ -81,54 +39,34 @@ module _ (s : Program) (n : ℕ) (f : Function) where
   unfolding below
   below-ends i rest types = rw (split-append rest types, same-refl types)
 
-  pub below-short : (i : ℕ) (types stack : List ℕ) → length stack < length types → below s n f i types stack ≡ refused (refusal 8 n i)
-  unfolding below
-  below-short i types stack h = rw (split-short (length types) stack h)
-
   pub types-on : (i : ℕ) (stack : List ℕ) → length stack ≤ 16 → typesOn s n f i stack ≡ found ((suc i, stack) ∷ [])
   unfolding typesOn
   types-on i stack h = rw (le-leb (length stack) 16 h)
 
-  pub types-high : (i : ℕ) (stack : List ℕ) → 16 < length stack → typesOn s n f i stack ≡ refused (refusal 8 n i)
-  unfolding typesOn
-  types-high i stack h = rw (lt-leb (length stack) 16 h)
-
-  pub load-typed : (i a : ℕ) (stack : List ℕ) {t : ℕ} → slot a stack ≡ some t → typeRule s n f i (Load a) stack ≡ typesOn s n f i (push stack t)
+  pub load-typed : (i a : ℕ) (stack : List ℕ) {t : ℕ} → slot a stack ≡ some t
+      → typeRule s n f i (Load a) stack ≡ typesOn s n f i (push stack t)
   unfolding typeRule
   load-typed i a stack e = rw e
-
-  pub load-untyped : (i a : ℕ) (stack : List ℕ) → slot a stack ≡ none → typeRule s n f i (Load a) stack ≡ refused (refusal 8 n i)
-  unfolding typeRule
-  load-untyped i a stack e = rw e
 
   pub build-typed : (i c : ℕ) (stack : List ℕ) {k : Constructor} → constructor s c ≡ some k
       → typeRule s n f i (Build c) stack ≡ (below s n f i (k .arguments) stack >>= (λ rest. typesOn s n f i (push rest (k .result))))
   unfolding typeRule
   build-typed i c stack e = rw e
 
-  pub build-unknown : (i c : ℕ) (stack : List ℕ) → constructor s c ≡ none → typeRule s n f i (Build c) stack ≡ refused (refusal 8 n i)
-  unfolding typeRule
-  build-unknown i c stack e = rw e
-
   pub call-typed : (i g : ℕ) (stack : List ℕ) {k : Function} → function s g ≡ some k
       → typeRule s n f i (Call g) stack ≡ (below s n f i (k .parameters) stack >>= (λ rest. typesOn s n f i (push rest (k .result))))
   unfolding typeRule
   call-typed i g stack e = rw e
 
-  pub call-unknown : (i g : ℕ) (stack : List ℕ) → function s g ≡ none → typeRule s n f i (Call g) stack ≡ refused (refusal 8 n i)
-  unfolding typeRule
-  call-unknown i g stack e = rw e
-
   pub branch-typed : (i c b : ℕ) (stack : List ℕ) {k : Constructor} → constructor s c ≡ some k
-      → typeRule s n f i (Branch c b) stack ≡ (below s n f i (k .result ∷ []) stack >>= (λ rest. typesOn s n f i (rest ++ k .arguments) >>= (λ on. found (on ++ ((b, stack) ∷ [])))))
+      → typeRule s n f i (Branch c b) stack
+      ≡ (below s n f i (k .result ∷ []) stack
+      >>= (λ rest. typesOn s n f i (rest ++ k .arguments) >>= (λ on. found (on ++ ((b, stack) ∷ [])))))
   unfolding typeRule
   branch-typed i c b stack e = rw e
 
-  pub branch-unknown : (i c b : ℕ) (stack : List ℕ) → constructor s c ≡ none → typeRule s n f i (Branch c b) stack ≡ refused (refusal 8 n i)
-  unfolding typeRule
-  branch-unknown i c b stack e = rw e
-
-  pub return-typed : (i : ℕ) (stack : List ℕ) → typeRule s n f i Return stack ≡ (below s n f i (f .result ∷ []) stack >>= (λ rest. found []))
+  pub return-typed : (i : ℕ) (stack : List ℕ)
+      → typeRule s n f i Return stack ≡ (below s n f i (f .result ∷ []) stack >>= (λ rest. found []))
   unfolding typeRule
   return-typed i stack = refl
 
@@ -143,47 +81,39 @@ module _ (s : Program) (n : ℕ) (f : Function) where
   unfolding shapeRule
   rule-covered i ins x e = rw e
 
-  pub rule-uncovered : (i : ℕ) (ins : Instruction) (x : Shape) → coveredAt s n f x ≡ false → shapeRule s n f i ins x ≡ refused (refusal 10 n i)
-  unfolding shapeRule
-  rule-uncovered i ins x e = rw e
-
-  pub load-shaped : (i a : ℕ) (x : Shape) {e : Expression} → slot a (x .stack) ≡ some e → shapeFrom s n f i (Load a) x ≡ found ((suc i, withStack x (push (x .stack) e)) ∷ [])
+  pub load-shaped : (i a : ℕ) (x : Shape) {e : Expression} → slot a (x .stack) ≡ some e
+      → shapeFrom s n f i (Load a) x ≡ found ((suc i, withStack x (push (x .stack) e)) ∷ [])
   unfolding shapeFrom
   load-shaped i a x h = rw h
 
-  pub enter-fits : (i : ℕ) (x : Shape) (args : ℕ) (y : Symbol) {p : List Expression × List Expression} → split args (x .stack) ≡ some p → length (formOf s (made y (p .1))) ≤ 16
+  pub enter-fits : (i : ℕ) (x : Shape) (args : ℕ) (y : Symbol) {p : List Expression × List Expression} → split args (x .stack) ≡ some p
+      → length (formOf s (made y (p .1))) ≤ 16
       → enter s n f i x args y ≡ found ((suc i, withStack x (push (p .0) (made y (p .1)))) ∷ [])
   unfolding enter
   enter-fits i x args y {p} e h = rw (e, le-leb (length (formOf s (made y (p .1)))) 16 h)
 
-  pub enter-many : (i : ℕ) (x : Shape) (args : ℕ) (y : Symbol) {p : List Expression × List Expression} → split args (x .stack) ≡ some p → 16 < length (formOf s (made y (p .1)))
-      → enter s n f i x args y ≡ refused (refusal 9 n i)
-  unfolding enter
-  enter-many i x args y {p} e h = rw (e, lt-leb (length (formOf s (made y (p .1)))) 16 h)
-
-  pub build-shaped : (i c : ℕ) (x : Shape) {k : Constructor} → constructor s c ≡ some k → shapeFrom s n f i (Build c) x ≡ enter s n f i x (length (k .arguments)) (built c)
+  pub build-shaped : (i c : ℕ) (x : Shape) {k : Constructor} → constructor s c ≡ some k
+      → shapeFrom s n f i (Build c) x ≡ enter s n f i x (length (k .arguments)) (built c)
   unfolding shapeFrom
   build-shaped i c x e = rw e
 
-  pub call-shaped : (i g : ℕ) (x : Shape) {k : Function} → function s g ≡ some k → shapeFrom s n f i (Call g) x ≡ enter s n f i x (length (k .parameters)) (called g)
+  pub call-shaped : (i g : ℕ) (x : Shape) {k : Function} → function s g ≡ some k
+      → shapeFrom s n f i (Call g) x ≡ enter s n f i x (length (k .parameters)) (called g)
   unfolding shapeFrom
   call-shaped i g x e = rw e
 
-  pub branch-shaped : (i c b : ℕ) (x : Shape) {k : Constructor} {p : List Expression × List Expression} → constructor s c ≡ some k → split 1 (x .stack) ≡ some p
+  pub branch-shaped : (i c b : ℕ) (x : Shape) {k : Constructor} {p : List Expression × List Expression} → constructor s c ≡ some k
+      → split 1 (x .stack) ≡ some p
       → shapeFrom s n f i (Branch c b) x ≡ branchOn s n f i x (p .0) c (length (k .arguments)) b (p .1)
   unfolding shapeFrom
   branch-shaped i c b x e h = rw (e, h)
 
-  -- both sides, or too many variables
-  pub variable-fits : (i : ℕ) (x : Shape) (rest : List Expression) (c args b v : ℕ) (ts : Trees Symbol) (more : List Expression) → x .count + args ≤ 16
+  -- both sides
+  pub variable-fits : (i : ℕ) (x : Shape) (rest : List Expression) (c args b v : ℕ) (ts : Trees Symbol) (more : List Expression)
+      → x .count + args ≤ 16
       → branchOn s n f i x rest c args b (node (variable v) ts ∷ more) ≡ found ((suc i, splitVariable x rest v c args) ∷ (b, x) ∷ [])
   unfolding branchOn
   variable-fits i x rest c args b v ts more h = rw (le-leb (x .count + args) 16 h)
-
-  pub variable-many : (i : ℕ) (x : Shape) (rest : List Expression) (c args b v : ℕ) (ts : Trees Symbol) (more : List Expression) → 16 < x .count + args
-      → branchOn s n f i x rest c args b (node (variable v) ts ∷ more) ≡ refused (refusal 9 n i)
-  unfolding branchOn
-  variable-many i x rest c args b v ts more h = rw (lt-leb (x .count + args) 16 h)
 
   -- the side that can be taken
   pub known-same : (i : ℕ) (x : Shape) (rest : List Expression) (c args b d : ℕ) (ts : Trees Symbol) (more : List Expression) → d ≡ c

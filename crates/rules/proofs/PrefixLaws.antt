@@ -1,14 +1,15 @@
--- Values in prefix order: bytes that pass the argument check are values of the declared types, what is written of values is the bytes read, and what is written is read back.
-use mathlib.Core.Path.{_≡_, refl, ap, _∙_}
+-- Values in prefix order: bytes that pass the argument check are values of the declared types, what is written of values is the bytes read,
+-- and what is written is read back.
+use mathlib.Core.Path.{_≡_, refl, ap}
 use mathlib.Core.List.{List, [], _∷_, _++_, append-assoc}
 use mathlib.Core.Option.{some}
-use mathlib.Core.Bool.{true, _&&_}
+use mathlib.Core.Bool.{_&&_}
 use Prim.Native.Nat.{ℕ, suc, _≤_}
 use lib.ListN.{length, take, drop, take-append-drop}
 use lib.Seq.{take-append-seam, drop-append-seam}
 use lib.Dec.{leb, eqb}
 use borrow.Author.Tests.{eqb-true, leb-true}
-use Rattle.rules.specs.Base.{found, passed}
+use Rattle.rules.specs.Base.{found}
 use Rattle.rules.specs.Lists.{a[], _a∷_}
 use Rattle.rules.specs.Program.{Constructor, Function, Program, constructor}
 use Rattle.rules.specs.Tree.{Trees, node, nil, cons, toList, fromList, made}
@@ -23,7 +24,8 @@ use Rattle.rules.proofs.Models.{have-trees}
 ---- Read, then written
 
 -- bytes that are read as arguments of these types stand for values of them
-pub read-typed : (s : Program) (offset : ℕ) (bytes pending : List ℕ) {u : Unit {0}} → readBytes s offset bytes pending ≡ found u → Typed s (values s bytes) pending
+read-typed : (s : Program) (offset : ℕ) (bytes pending : List ℕ) {u : Unit {0}} → readBytes s offset bytes pending ≡ found u
+    → Typed s (values s bytes) pending
 unfolding readBytes readByte values arityOf
 read-typed s offset [] [] e = a[]
 read-typed s offset [] (t ∷ pending) e = absurd (refused-found e)
@@ -44,7 +46,8 @@ read-typed s offset (c ∷ bytes) (t ∷ pending) e =
         let back : Typed s (drop n later) pending = rw (drop-append-seam (K .arguments) pending) at (all2-drop n h) in
         rw ck (_a∷_ {x = made c (take n later)} (K, ck, is, have-trees s front) back)
 
-pub arguments-typed : (s : Program) (f : Function) (bytes : List ℕ) {u : Unit {0}} → argumentsRight s f bytes ≡ found u → (length bytes ≤ 65535) × Typed s (values s bytes) (f .parameters)
+pub arguments-typed : (s : Program) (f : Function) (bytes : List ℕ) {u : Unit {0}} → argumentsRight s f bytes ≡ found u
+    → (length bytes ≤ 65535) × Typed s (values s bytes) (f .parameters)
 unfolding argumentsRight
 arguments-typed s f bytes e =
     let b = after-required (leb (length bytes) 65535) _ _ e in
@@ -56,7 +59,7 @@ written-append [] ys = refl
 written-append (x ∷ xs) ys = rw (written-append xs ys, append-assoc)
 
 -- the values that bytes stand for are written as these bytes
-pub written-values : (s : Program) (bytes : List ℕ) → writtenAll (fromList (values s bytes)) ≡ bytes
+written-values : (s : Program) (bytes : List ℕ) → writtenAll (fromList (values s bytes)) ≡ bytes
 unfolding values written
 written-values s [] = refl
 written-values s (c ∷ bytes) =
@@ -69,28 +72,28 @@ argument-fact s f bytes e = let t = arguments-typed s f bytes e in (t .0, t .1, 
 
 ---- Written, then read
 
-pub from-to : {A : Type 0} (ts : Trees A) → fromList (toList ts) ≡ ts
+from-to : {A : Type 0} (ts : Trees A) → fromList (toList ts) ≡ ts
 from-to nil = refl
 from-to (cons t ts) = ap (cons t) (from-to ts)
 
 module _ (s : Program) where
   abbrev mutual
-    pub Formed : Value → Type 0
+    Formed : Value → Type 0
     Formed (node c vs) = (length (toList vs) ≡ arityOf (constructor s c)) × AllFormed vs
 
-    pub AllFormed : Trees ℕ → Type 0
+    AllFormed : Trees ℕ → Type 0
     AllFormed nil = Unit {0}
     AllFormed (cons v vs) = Formed v × AllFormed vs
 
   mutual
     unfolding written values
 
-    pub read-back : (v : Value) → Formed v → (rest : List ℕ) → values s (written v ++ rest) ≡ v ∷ values s rest
+    read-back : (v : Value) → Formed v → (rest : List ℕ) → values s (written v ++ rest) ≡ v ∷ values s rest
     read-back (node c vs) h rest =
         let later : values s (writtenAll vs ++ rest) ≡ toList vs ++ values s rest = read-back-all vs (h .1) rest in
         rw (later, ← h .0, take-append-seam, drop-append-seam, from-to)
 
-    pub read-back-all : (vs : Trees ℕ) → AllFormed vs → (rest : List ℕ) → values s (writtenAll vs ++ rest) ≡ toList vs ++ values s rest
+    read-back-all : (vs : Trees ℕ) → AllFormed vs → (rest : List ℕ) → values s (writtenAll vs ++ rest) ≡ toList vs ++ values s rest
     read-back-all nil h rest = refl
     read-back-all (cons v vs) h rest =
         rw (append-assoc, read-back v (h .0) (writtenAll vs ++ rest), read-back-all vs (h .1) rest)

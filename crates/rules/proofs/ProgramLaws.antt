@@ -52,5 +52,8 @@ module _ {bytes : List ℕ} {s : Program} (P : Passed bytes s) (small : All (λ 
       least (suc n) zero h e = absurd (never n (eqb (suc n) 0) (ltb 0 (suc n)) refl e)
       least (suc n) (suc w) h e = omega arith
 
-  pub bound-numbers : (n : ℕ) (f : Function) → function s n ≡ some f → All (λ a. All (λ c. c ≤ 15) (a .coefficients) × (a .constant ≤ 65535)) (f .bound)
-  bound-numbers n f e = all-map (λ a d. (d .coefficients, omega (arith, d .constant, payload-small (d .place), payload-small (d .place + 1)))) (decoded-function P n f e .alternatives)
+  pub bound-numbers : (n : ℕ) (f : Function) → function s n ≡ some f
+      → All (λ a. All (λ c. c ≤ 15) (a .coefficients) × (a .constant ≤ 65535)) (f .bound)
+  bound-numbers n f e =
+      all-map (λ a d. (d .coefficients, omega (arith, d .constant, payload-small (d .place), payload-small (d .place + 1))))
+      (decoded-function P n f e .alternatives)

@@ -13,22 +13,26 @@ use borrow.Author.Tests.{leb-true, leb-false}
 use Rattle.rules.specs.Base.{Refusal, refusal, Tried, found, refused, if_then_else_}
 use Rattle.rules.specs.Program.{Function, Program, constructor, function}
 use Rattle.rules.specs.Machine.{Value, State, start, step, after, resultOf}
-use Rattle.rules.specs.Values.{size, sizes, Has, Typed, boundAt}
+use Rattle.rules.specs.Values.{size, Has, Typed}
 use Rattle.rules.specs.Check.{checked}
 use Rattle.rules.specs.Prefix.{readByte, readBytes, argumentsRight, values, written}
-use Rattle.rules.specs.Run.{Lent, Tables, usable, Ending, finished, aborted, refusedWith, Outcome, answer, heights, fits, refusalAt, endOf, continued, loaded, started, deliveredIn, delivered, run}
-use Rattle.rules.specs.Promise.{takes, builds, Room, NoRoom, frames, stack, heap, Ends, with-result, undelivered, stopped, spent, short, Ran, Answers, not-begun, began, Promised, TallyPromise}
+use Rattle.rules.specs.Run.{Lent, Tables, usable, Ending, finished, aborted, refusedWith, Outcome, heights, fits, refusalAt, endOf}
+use Rattle.rules.specs.Run.{continued, loaded, started, deliveredIn, delivered, run}
+use Rattle.rules.specs.Promise.{takes, builds, Room, NoRoom, frames, stack, heap, Ends, with-result, undelivered, stopped, spent}
+use Rattle.rules.specs.Promise.{short, Ran, Answers, not-begun, began, TallyPromise}
 use Rattle.rules.specs.Facts.{NumberFact}
 use Rattle.rules.proofs.ListLaws.{none-some, some-inj}
 use Rattle.rules.proofs.TriedLaws.{Refuses, refuses-bind, refuses-required, refuses-require, refuses-some}
 use Rattle.rules.proofs.Sound.{stepped, resulted}
 use Rattle.rules.proofs.Accepted.{Passed, checked-parts}
 use Rattle.rules.proofs.MachineLaws.{after-next, result-stops, builds-next}
-use Rattle.rules.proofs.RunLaws.{Stepping, step-within, continued-ended, continued-spent, continued-short, continued-on, started-refused, started-loaded, loaded-parts, run-checked}
+use Rattle.rules.proofs.RunLaws.{Stepping, step-within, continued-ended, continued-spent, continued-short, continued-on}
+use Rattle.rules.proofs.RunLaws.{started-refused, started-loaded, loaded-parts, run-checked}
 use Rattle.rules.proofs.Reachable.{states-safe, limit, Invariant, Going, begins, going}
 
 -- an entry function with arguments of the declared types, and what is lent
-module _ {file : List ℕ} {s : Program} (P : Passed file s) (n : ℕ) (f : Function) (at-f : function s n ≡ some f) (us : List Value) (typed : Typed s us (f .parameters)) (m : Tables) (budget room cells₀ : ℕ) where
+module _ {file : List ℕ} {s : Program} (P : Passed file s) (n : ℕ) (f : Function) (at-f : function s n ≡ some f) (us : List Value)
+    (typed : Typed s us (f .parameters)) (m : Tables) (budget room cells₀ : ℕ) where
   abbrev B : ℕ
   B = limit P n f at-f us typed
 
@@ -45,7 +49,8 @@ module _ {file : List ℕ} {s : Program} (P : Passed file s) (n : ℕ) (f : Func
   abbrev Fitted : ℕ → Type 0
   Fitted steps = (k : ℕ) (st : State) → k ≤ steps → after s k (start n us) ≡ some st → Room m st (cells₀ + builds s k (start n us))
 
-  fitted-next : (steps : ℕ) (next : State) → Fitted steps → after s (suc steps) (start n us) ≡ some next → Room m next (cells₀ + builds s (suc steps) (start n us)) → Fitted (suc steps)
+  fitted-next : (steps : ℕ) (next : State) → Fitted steps → after s (suc steps) (start n us) ≡ some next
+      → Room m next (cells₀ + builds s (suc steps) (start n us)) → Fitted (suc steps)
   fitted-next steps next h r fits-next k st le e = one (leb k steps) refl
     where
       one : (t : Bool) → leb k steps ≡ t → Room m st (cells₀ + builds s k (start n us))
@@ -56,11 +61,13 @@ module _ {file : List ℕ} {s : Program} (P : Passed file s) (n : ℕ) (f : Func
           rw (is, ← same) fits-next
 
   -- a result is delivered, or there is no room for it
-  delivers : (st : State) (v : Value) → resultOf s st ≡ some v → Has s v (f .result) → size s v ≤ B → (steps : ℕ) → Ending-at steps st (deliveredIn room (finished (written v)))
+  delivers : (st : State) (v : Value) → resultOf s st ≡ some v → Has s v (f .result) → size s v ≤ B → (steps : ℕ)
+      → Ending-at steps st (deliveredIn room (finished (written v)))
   unfolding deliveredIn
   delivers st v e h l steps = one (leb (length (written v)) room) refl
     where
-      one : (t : Bool) → leb (length (written v)) room ≡ t → Ending-at steps st (if t then finished (written v) else refusedWith (refusal 13 (length (written v)) 0))
+      one : (t : Bool) → leb (length (written v)) room ≡ t
+          → Ending-at steps st (if t then finished (written v) else refusedWith (refusal 13 (length (written v)) 0))
       one true w = with-result v e h l (leb-true _ _ w)
       one false w = undelivered v e h l (leb-false _ _ w)
 
@@ -83,20 +90,30 @@ module _ {file : List ℕ} {s : Program} (P : Passed file s) (n : ℕ) (f : Func
           two none w = on (rw w) next e h′
 
   -- from a state that so many steps led to
-  continued-ran : (left steps : ℕ) (st : State) (cells : ℕ) → steps + left ≡ budget → Good st → after s steps (start n us) ≡ some st → Fitted steps → cells ≡ cells₀ + builds s steps (start n us) → Ok (continued s m left steps st cells)
+  continued-ran : (left steps : ℕ) (st : State) (cells : ℕ) → steps + left ≡ budget → Good st → after s steps (start n us) ≡ some st
+      → Fitted steps → cells ≡ cells₀ + builds s steps (start n us) → Ok (continued s m left steps st cells)
   unfolding delivered deliveredIn
   continued-ran zero steps st cells b h r fit c = one (now st h)
     where
       one : Now st → Ok (continued s m zero steps st cells)
-      one (done e w k) = rw (continued-ended s m zero steps st cells w) (record { last = st; reached = r; within-budget = omega arith; fitted = fit; ending = k steps })
-      one (on w next e h′) = rw (continued-spent s m steps st cells w) (record { last = st; reached = r; within-budget = omega arith; fitted = fit; ending = spent (omega arith) next e })
-  continued-ran (suc left) steps st cells b h r fit c = one (now st h) (λ next c′ g r′ fit′ e. continued-ran left (suc steps) next c′ (omega arith) g r′ fit′ e)
+      one (done e w k) =
+          rw (continued-ended s m zero steps st cells w)
+          (record { last = st; reached = r; within-budget = omega arith; fitted = fit; ending = k steps })
+      one (on w next e h′) =
+          rw (continued-spent s m steps st cells w)
+          (record { last = st; reached = r; within-budget = omega arith; fitted = fit; ending = spent (omega arith) next e })
+  continued-ran (suc left) steps st cells b h r fit c =
+      one (now st h) (λ next c′ g r′ fit′ e. continued-ran left (suc steps) next c′ (omega arith) g r′ fit′ e)
     where
       Later : Type 0
-      Later = (next : State) (c′ : ℕ) → Good next → after s (suc steps) (start n us) ≡ some next → Fitted (suc steps) → c′ ≡ cells₀ + builds s (suc steps) (start n us) → Ok (continued s m left (suc steps) next c′)
+      Later =
+          (next : State) (c′ : ℕ) → Good next → after s (suc steps) (start n us) ≡ some next → Fitted (suc steps)
+          → c′ ≡ cells₀ + builds s (suc steps) (start n us) → Ok (continued s m left (suc steps) next c′)
 
       one : Now st → Later → Ok (continued s m (suc left) steps st cells)
-      one (done e w k) ih = rw (continued-ended s m (suc left) steps st cells w) (record { last = st; reached = r; within-budget = omega arith; fitted = fit; ending = k steps })
+      one (done e w k) ih =
+          rw (continued-ended s m (suc left) steps st cells w)
+          (record { last = st; reached = r; within-budget = omega arith; fitted = fit; ending = k steps })
       one (on w next e h′) ih = two (step-within s m st cells next e)
         where
           more : cells + takes s st ≡ cells₀ + builds s (suc steps) (start n us)
@@ -105,8 +122,15 @@ module _ {file : List ℕ} {s : Program} (P : Passed file s) (n : ℕ) (f : Func
           two : Stepping s m st cells next → Ok (continued s m (suc left) steps st cells)
           two (inl q) =
               let r′ = after-next s steps (start n us) st next r e in
-              rw (continued-on s m left steps st cells w (q .0)) (ih next (cells + takes s st) h′ r′ (fitted-next steps next fit r′ (rw more at (q .1))) more)
-          two (inr q) = rw (continued-short s m left steps st cells w (q .2)) (record { last = st; reached = r; within-budget = omega arith; fitted = fit; ending = short (omega arith) next e (q .0) (rw more at (q .1)) })
+              rw (continued-on s m left steps st cells w (q .0))
+              (ih next (cells + takes s st) h′ r′ (fitted-next steps next fit r′ (rw more at (q .1))) more)
+          two (inr q) = rw (continued-short s m left steps st cells w (q .2)) (record {
+            last = st;
+            reached = r;
+            within-budget = omega arith;
+            fitted = fit;
+            ending = short (omega arith) next e (q .0) (rw more at (q .1));
+          })
 
   begins-fitted : Room m (start n us) cells₀ → Fitted 0
   unfolding after builds
@@ -116,21 +140,26 @@ module _ {file : List ℕ} {s : Program} (P : Passed file s) (n : ℕ) (f : Func
   -- from the start
   started-ran : (st : State) → start n us ≡ st → Room m st cells₀ → Ok (continued s m budget 0 st cells₀)
   unfolding after builds
-  started-ran st e fits-start = rw (← e) (continued-ran budget 0 (start n us) cells₀ (omega arith) (begins P n f at-f us typed) refl (begins-fitted (rw (sym e) at fits-start)) (omega arith))
+  started-ran st e fits-start =
+      rw (← e) (continued-ran budget 0 (start n us) cells₀ (omega arith) (begins P n f at-f us typed) refl
+      (begins-fitted (rw (sym e) at fits-start)) (omega arith))
 
 ---- The promise
 
 module _ (file : List ℕ) (s : Program) (e : checked file ≡ found s) where
-  runs : (entry : ℕ) (arguments : List ℕ) (budget : ℕ) (lent : Lent) → Answers s entry arguments budget lent (run file entry arguments budget lent)
+  runs : (entry : ℕ) (arguments : List ℕ) (budget : ℕ) (lent : Lent)
+      → Answers s entry arguments budget lent (run file entry arguments budget lent)
   unfolding delivered deliveredIn
   runs entry arguments budget lent = rw (run-checked file entry arguments budget lent e) (one (loaded s (usable lent) entry arguments) refl)
     where
-      one : (t : Tried State) → loaded s (usable lent) entry arguments ≡ t → Answers s entry arguments budget lent (delivered (lent .output) (started s (usable lent) budget entry arguments))
+      one : (t : Tried State) → loaded s (usable lent) entry arguments ≡ t
+          → Answers s entry arguments budget lent (delivered (lent .output) (started s (usable lent) budget entry arguments))
       one (refused r) w = not-begun r w (ap (delivered (lent .output)) (started-refused s (usable lent) budget entry arguments w))
       one (found st) w =
           let (f, at-f, few, typed, same, fits-start) = loaded-parts s (usable lent) entry arguments w in
           rw (started-loaded s (usable lent) budget entry arguments w)
-          (began f at-f typed (started-ran (checked-parts file s e) entry f at-f (values s arguments) typed (usable lent) budget (lent .output) (length arguments) st same fits-start))
+          (began f at-f typed (started-ran (checked-parts file s e) entry f at-f (values s arguments) typed (usable lent) budget
+          (lent .output) (length arguments) st same fits-start))
 
 -- demand 3
 pub tally-promise : TallyPromise
@@ -138,34 +167,39 @@ tally-promise file s e = record { states = states-safe (checked-parts file s e);
 
 ---- Its numbers
 
-abbrev InRange : Refusal → Type 0
-InRange r = (11 ≤ r .number) × (r .number ≤ 17)
+abbrev RunNumber : Refusal → Type 0
+RunNumber r = (11 ≤ r .number) × (r .number ≤ 17)
 
-byte-numbers : (s : Program) (offset c : ℕ) (pending : List ℕ) → Refuses InRange (readByte s offset c pending)
+byte-numbers : (s : Program) (offset c : ℕ) (pending : List ℕ) → Refuses RunNumber (readByte s offset c pending)
 unfolding readByte
 byte-numbers s offset c [] = (omega arith, omega arith)
 byte-numbers s offset c (t ∷ pending) =
-    refuses-some InRange (constructor s c) _ _ (omega arith, omega arith)
-    (λ k. refuses-required InRange (eqb (k .result) t && leb (length (k .arguments ++ pending)) 256) _ _ (omega arith, omega arith) tt)
+    refuses-some RunNumber (constructor s c) _ _ (omega arith, omega arith)
+    (λ k. refuses-required RunNumber (eqb (k .result) t && leb (length (k .arguments ++ pending)) 256) _ _ (omega arith, omega arith) tt)
 
-bytes-numbers : (s : Program) (offset : ℕ) (bytes pending : List ℕ) → Refuses InRange (readBytes s offset bytes pending)
+bytes-numbers : (s : Program) (offset : ℕ) (bytes pending : List ℕ) → Refuses RunNumber (readBytes s offset bytes pending)
 unfolding readBytes
 bytes-numbers s offset [] [] = tt
 bytes-numbers s offset [] (t ∷ pending) = (omega arith, omega arith)
-bytes-numbers s offset (c ∷ bytes) pending = refuses-bind InRange (readByte s offset c pending) _ (byte-numbers s offset c pending) (λ later. bytes-numbers s (suc offset) bytes later)
+bytes-numbers s offset (c ∷ bytes) pending =
+    refuses-bind RunNumber (readByte s offset c pending) _ (byte-numbers s offset c pending)
+    (λ later. bytes-numbers s (suc offset) bytes later)
 
-fits-numbers : (m : Tables) (st : State) (cells f i : ℕ) → Refuses InRange (fits m st cells f i)
+fits-numbers : (m : Tables) (st : State) (cells f i : ℕ) → Refuses RunNumber (fits m st cells f i)
 unfolding fits
 fits-numbers m st cells f i =
-    refuses-required InRange (leb (length st) (m .frames)) _ _ (omega arith, omega arith)
-    (refuses-required InRange (leb (heights st) (m .stack)) _ _ (omega arith, omega arith) (refuses-require InRange (leb cells (m .cells)) _ (omega arith, omega arith)))
+    refuses-required RunNumber (leb (length st) (m .frames)) _ _ (omega arith, omega arith)
+    (refuses-required RunNumber (leb (heights st) (m .stack)) _ _ (omega arith, omega arith)
+    (refuses-require RunNumber (leb cells (m .cells)) _ (omega arith, omega arith)))
 
-loaded-numbers : (s : Program) (m : Tables) (entry : ℕ) (args : List ℕ) → Refuses InRange (loaded s m entry args)
+loaded-numbers : (s : Program) (m : Tables) (entry : ℕ) (args : List ℕ) → Refuses RunNumber (loaded s m entry args)
 unfolding loaded argumentsRight
 loaded-numbers s m entry args =
-    refuses-some InRange (function s entry) _ _ (omega arith, omega arith)
-    (λ f. refuses-bind InRange (argumentsRight s f args) _ (refuses-required InRange (leb (length args) 65535) _ _ (omega arith, omega arith) (bytes-numbers s 0 args (f .parameters)))
-    (λ _. refuses-bind InRange (fits m (start entry (values s args)) (length args) entry 1) _ (fits-numbers m (start entry (values s args)) (length args) entry 1) (λ _. tt)))
+    refuses-some RunNumber (function s entry) _ _ (omega arith, omega arith)
+    (λ f. refuses-bind RunNumber (argumentsRight s f args) _
+    (refuses-required RunNumber (leb (length args) 65535) _ _ (omega arith, omega arith) (bytes-numbers s 0 args (f .parameters)))
+    (λ _. refuses-bind RunNumber (fits m (start entry (values s args)) (length args) entry 1) _
+    (fits-numbers m (start entry (values s args)) (length args) entry 1) (λ _. tt)))
 
 no-room-number : {m : Tables} {st : State} {cells number : ℕ} → NoRoom m st cells number → (15 ≤ number) × (number ≤ 17)
 no-room-number (frames h) = (omega arith, omega arith)
@@ -180,14 +214,18 @@ place-number k (fr ∷ frs) = refl
 pub number-fact : NumberFact
 number-fact file s e entry arguments budget lent r w = one (runs file s e entry arguments budget lent)
   where
-    at-end : {f : Function} {limit room steps cells : ℕ} {begin st : State} (x : Ending (List ℕ)) → x ≡ refusedWith r → Ends s f limit (usable lent) budget room begin cells steps st x → InRange r
+    at-end : {f : Function} {limit room steps cells : ℕ} {begin st : State} (x : Ending (List ℕ)) → x ≡ refusedWith r
+        → Ends s f limit (usable lent) budget room begin cells steps st x → RunNumber r
     at-end x q (with-result v e′ h l k) = let z : _≡_ {A = ℕ} 0 1 = cc in absurd (omega arith)
     at-end x q (undelivered v e′ h l k) = let p : refusal 13 (length (written v)) 0 ≡ r = cc in rw (← p) (omega arith, omega arith)
     at-end x q (stopped h) = let z : _≡_ {A = ℕ} 0 1 = cc in absurd (omega arith)
     at-end {st} x q (spent b next h) = let p : refusalAt 14 st ≡ r = cc in rw (← p, place-number 14 st) (omega arith, omega arith)
-    at-end {st} x q (short b next h number gone) = let p : refusalAt number st ≡ r = cc in let k = no-room-number gone in rw (← p, place-number number st) (omega arith, omega arith)
+    at-end {st} x q (short b next h number gone) =
+        let p : refusalAt number st ≡ r = cc in
+        let k = no-room-number gone in
+        rw (← p, place-number number st) (omega arith, omega arith)
 
-    one : Answers s entry arguments budget lent (run file entry arguments budget lent) → InRange r
+    one : Answers s entry arguments budget lent (run file entry arguments budget lent) → RunNumber r
     one (not-begun x h q) =
         let p : refusedWith x ≡ refusedWith r = sym (ap (λ (a : Outcome). a .ending) q) ∙ w in
         let same : x ≡ r = cc in

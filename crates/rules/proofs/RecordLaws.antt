@@ -1,22 +1,26 @@
--- The records of a payload: what stands where if all are right, and what a decoded program has (small arities and coefficients, numbers of the payload's bytes, code).
-use mathlib.Core.Path.{_≡_, refl, sym, subst}
-use mathlib.Core.List.{List, [], _∷_}
-use mathlib.Core.Bool.{Bool, true, false, _&&_}
-use Prim.Native.Nat.{ℕ, zero, suc, _+_, _≤_, _<_, zero-le, suc-le-suc}
+-- The records of a payload: what stands where if all are right, and what a decoded program has (small arities and coefficients, numbers of
+-- the payload's bytes, code).
+use mathlib.Core.Path.{_≡_, refl, sym}
+use mathlib.Core.List.{List}
+use mathlib.Core.Bool.{Bool, true, _&&_}
+use Prim.Native.Nat.{ℕ, _+_, _≤_, _<_}
 use native.Mathlib.Omega.{arith}
 use native.Mathlib.Nat.{le-trans, le-of-eq, zero-add}
-use lib.ListN.{length, take, drop}
+use lib.ListN.{length, drop}
 use lib.Seq.{length-take-le}
 use lib.Dec.{leb, eqb}
 use borrow.Author.Tests.{leb-true, lt-leb, le-leb, eqb-true}
 use Rattle.rules.specs.declared.records.Alternative.{Alternative}
-use Rattle.rules.specs.declared.records.AlternativeRecord.{AlternativeRecord}
 use Rattle.rules.specs.declared.records.Declaration.{Declaration}
-use Rattle.rules.specs.Base.{Tried, found, refused, refusal, Check, passed, require, within, isZero, all, byteAt, wordAt, numbered, forEach}
-use Rattle.rules.specs.Lists.{All, l[], _l∷_}
+use Rattle.rules.specs.Base.{found, refused, refusal, passed, require, within, isZero, all, byteAt, wordAt, forEach}
+use Rattle.rules.specs.Lists.{All}
 use Rattle.rules.specs.Program.{Constructor, Function, Program}
-use Rattle.rules.specs.Records.{fourAt, headerAt, declarationAt, constructorAt, headAt, alternativeAt, instructionAt, pastZero, headerRight, declarationRight, constructorRight, headRight, alternativeRight, operation, isSome, constructorOffset, alternativeOffset, codeOffset, instructionOffset, headOffset, recordRight, constructorCheck, alternativeCheck, instructionCheck, functionRight, constructorsRight, functionsRight, nothingLeft, recordsRight, argumentsOf, constructorOf, alternativeOf, instructionOf, functionOf, programOf, decode}
-use Rattle.rules.specs.Opened.{FunctionThere, RecordsThere}
+use Rattle.rules.specs.Records.{fourAt, headerAt, declarationAt, constructorAt, headAt, alternativeAt, instructionAt, pastZero}
+use Rattle.rules.specs.Records.{headerRight, declarationRight, constructorRight, headRight, alternativeRight, constructorOffset}
+use Rattle.rules.specs.Records.{alternativeOffset, codeOffset, instructionOffset, headOffset, recordRight, constructorCheck}
+use Rattle.rules.specs.Records.{alternativeCheck, instructionCheck, functionRight, constructorsRight, functionsRight, nothingLeft}
+use Rattle.rules.specs.Records.{recordsRight, argumentsOf, constructorOf, alternativeOf, instructionOf, functionOf, programOf, decode}
+use Rattle.rules.specs.There.{FunctionThere, RecordsThere}
 use Rattle.rules.proofs.ListLaws.{and-left, and-right, all-true, all-take}
 use Rattle.rules.proofs.TriedLaws.{bind-found, found-inj, required}
 use Rattle.rules.proofs.NumberedLaws.{numbered-length, numbered-all, forEach-at}
@@ -24,35 +28,39 @@ use Rattle.rules.proofs.NumberedLaws.{numbered-length, numbered-all, fo
 ---- One record
 
 -- a record that is right is all there, and its fields are in range
-pub record-there : (size : ℕ) (bytes : List ℕ) (at : ℕ) (r : Bool) {u : Unit {0}} → recordRight size bytes at r ≡ found u → (at + size ≤ length bytes) × (r ≡ true)
+record-there : (size : ℕ) (bytes : List ℕ) (at : ℕ) (r : Bool) {u : Unit {0}} → recordRight size bytes at r ≡ found u
+    → (at + size ≤ length bytes) × (r ≡ true)
 unfolding recordRight
 record-there size bytes at r e =
     let t = required (leb (at + size) (length bytes) && r) _ e in
     (leb-true _ _ (and-left (leb (at + size) (length bytes)) r t), and-right (leb (at + size) (length bytes)) r t)
 
 -- as the code tests it, where n is the payload's length: one that is cut short, and one that is all there
-pub record-short : (size : ℕ) (bytes : List ℕ) (at n : ℕ) (r : Bool) → n ≡ length bytes → n < at + size → refused (refusal 4 at 0) ≡ recordRight size bytes at r
+pub record-short : (size : ℕ) (bytes : List ℕ) (at n : ℕ) (r : Bool) → n ≡ length bytes → n < at + size
+    → refused (refusal 4 at 0) ≡ recordRight size bytes at r
 unfolding recordRight
 record-short size bytes at n r e h = simp (lt-leb (at + size) (length bytes) (omega arith))
 
-pub record-whole : (size : ℕ) (bytes : List ℕ) (at n : ℕ) (r r′ : Bool) → n ≡ length bytes → at + size ≤ n → r ≡ r′ → require r (refusal 4 at 0) ≡ recordRight size bytes at r′
+pub record-whole : (size : ℕ) (bytes : List ℕ) (at n : ℕ) (r r′ : Bool) → n ≡ length bytes → at + size ≤ n → r ≡ r′
+    → require r (refusal 4 at 0) ≡ recordRight size bytes at r′
 unfolding recordRight
 record-whole size bytes at n r r′ e h e′ = simp (le-leb (at + size) (length bytes) (omega arith), e′)
 
-pub few-fields : (n : ℕ) (four : List ℕ) → pastZero n four ≡ true → n ≤ 4
+few-fields : (n : ℕ) (four : List ℕ) → pastZero n four ≡ true → n ≤ 4
 few-fields n four e = leb-true n 4 (and-left (leb n 4) (all isZero (drop n four)) e)
 
-pub few-arguments : (d : Declaration) → declarationRight d ≡ true → d .arity ≤ 4
+few-arguments : (d : Declaration) → declarationRight d ≡ true → d .arity ≤ 4
 unfolding declarationRight
 few-arguments d e = few-fields (d .arity) (d .types) e
 
-pub arguments-length : (bytes : List ℕ) (at : ℕ) → byteAt bytes (at + 1) ≤ 4 → length (argumentsOf (declarationAt bytes at)) ≡ byteAt bytes (at + 1)
+pub arguments-length : (bytes : List ℕ) (at : ℕ) → byteAt bytes (at + 1) ≤ 4
+    → length (argumentsOf (declarationAt bytes at)) ≡ byteAt bytes (at + 1)
 arguments-length bytes at h = length-take-le (byteAt bytes (at + 1)) (fourAt bytes (at + 2)) h
 
 ---- A function
 
 -- where the records of a function are right, it is there
-pub function-there : (bytes : List ℕ) (at : ℕ) {u : Unit {0}} → functionRight bytes at ≡ found u → FunctionThere bytes at
+function-there : (bytes : List ℕ) (at : ℕ) {u : Unit {0}} → functionRight bytes at ≡ found u → FunctionThere bytes at
 unfolding functionRight headRight
 function-there bytes at e =
     let one = bind-found (recordRight 10 bytes at (headRight (headAt bytes at))) _ e in
@@ -73,7 +81,9 @@ function-there bytes at e =
       some-code = leb-true _ _ (and-left (leb 1 (wordAt bytes (at + 8))) (leb (wordAt bytes (at + 8)) 256) hc);
       short-code = leb-true _ _ (and-right (leb 1 (wordAt bytes (at + 8))) (leb (wordAt bytes (at + 8)) 256) hc);
       alternative = λ k l. record-there 6 bytes (alternativeOffset at k) _ (forEach-at (alternativeCheck bytes at) _ (two .1) k l);
-      instruction = λ i l. record-there 4 bytes (instructionOffset (codeOffset bytes at) i) _ (forEach-at (instructionCheck bytes (codeOffset bytes at)) _ (two .2) i l);
+      instruction =
+          λ i l. record-there 4 bytes (instructionOffset (codeOffset bytes at) i) _
+          (forEach-at (instructionCheck bytes (codeOffset bytes at)) _ (two .2) i l);
     }
 
 ---- All records
@@ -92,7 +102,9 @@ records-there bytes e =
           let r = record-there 8 bytes (constructorOffset c) _ (forEach-at (constructorCheck bytes) (byteAt bytes 2) (two .1) c l) in
           let d = declarationAt bytes (constructorOffset c) in
           (r .0, few-arguments d (and-left (declarationRight d) (isZero (byteAt bytes (constructorOffset c + 7))) (r .1)));
-      function = λ g l. function-there bytes (headOffset bytes g) (forEach-at (λ g. functionRight bytes (headOffset bytes g)) (byteAt bytes 3) (three .1) g l);
+      function =
+          λ g l. function-there bytes (headOffset bytes g)
+          (forEach-at (λ g. functionRight bytes (headOffset bytes g)) (byteAt bytes 3) (three .1) g l);
       end = eqb-true _ _ (required (eqb (headOffset bytes (byteAt bytes 3)) (length bytes)) _ (three .2));
     }
 
@@ -115,10 +127,13 @@ module _ (bytes : List ℕ) where
     pub place : ℕ
     pub weight : k .weight ≡ byteAt bytes place
 
-  alternative-decoded : (n at : ℕ) → alternativeRight n (alternativeAt bytes at) ≡ true → DecodedAlternative (alternativeOf n (alternativeAt bytes at))
+  alternative-decoded : (n at : ℕ) → alternativeRight n (alternativeAt bytes at) ≡ true
+      → DecodedAlternative (alternativeOf n (alternativeAt bytes at))
   unfolding alternativeRight alternativeOf
   alternative-decoded n at e = record {
-    coefficients = all-take n (all-true (λ c. leb c 15) (λ c h. leb-true c 15 h) (fourAt bytes at) (and-right (pastZero n (fourAt bytes at)) (all (λ c. leb c 15) (fourAt bytes at)) e));
+    coefficients =
+        all-take n (all-true (λ c. leb c 15) (λ c h. leb-true c 15 h) (fourAt bytes at)
+        (and-right (pastZero n (fourAt bytes at)) (all (λ c. leb c 15) (fourAt bytes at)) e));
     place = at + 4;
     constant = refl;
   }
@@ -127,8 +142,12 @@ module _ (bytes : List ℕ) where
   unfolding functionOf
   function-decoded at t = record {
     few = le-trans (le-of-eq (arguments-length bytes at (t .arity))) (t .arity);
-    some-code = le-trans (t .some-code) (le-of-eq (sym (numbered-length (λ i. instructionOf (instructionAt bytes (instructionOffset (codeOffset bytes at) i))) (wordAt bytes (at + 8)) 0)));
-    alternatives = numbered-all (λ k. alternativeOf (byteAt bytes (at + 1)) (alternativeAt bytes (alternativeOffset at k))) (byteAt bytes (at + 6)) 0
+    some-code =
+        le-trans (t .some-code) (le-of-eq
+        (sym (numbered-length (λ i. instructionOf (instructionAt bytes (instructionOffset (codeOffset bytes at) i))) (wordAt bytes (at + 8))
+        0)));
+    alternatives =
+        numbered-all (λ k. alternativeOf (byteAt bytes (at + 1)) (alternativeAt bytes (alternativeOffset at k))) (byteAt bytes (at + 6)) 0
         (λ k l. rw (zero-add k) (alternative-decoded (byteAt bytes (at + 1)) (alternativeOffset at k) (t .alternative k l .1)));
   }
 
@@ -137,7 +156,7 @@ module _ (bytes : List ℕ) where
   constructor-decoded at h = record { few = le-trans (le-of-eq (arguments-length bytes at h)) h; place = at + 6; weight = refl }
 
   -- decoding in its two parts
-  pub decode-parts : {s : Program} → decode bytes ≡ found s → (recordsRight bytes ≡ passed) × (programOf bytes ≡ s)
+  decode-parts : {s : Program} → decode bytes ≡ found s → (recordsRight bytes ≡ passed) × (programOf bytes ≡ s)
   unfolding decode
   decode-parts e = let r = bind-found (recordsRight bytes) _ e in (r .1, found-inj (r .2))
 
@@ -147,6 +166,8 @@ module _ (bytes : List ℕ) where
       let r = decode-parts e in
       let t = records-there bytes (r .0) in
       rw (← r .1) (
-        numbered-all (λ g. functionOf bytes (headOffset bytes g)) (byteAt bytes 3) 0 (λ g l. rw (zero-add g) (function-decoded (headOffset bytes g) (t .function g l))),
-        numbered-all (λ c. constructorOf (constructorAt bytes (constructorOffset c))) (byteAt bytes 2) 0 (λ c l. rw (zero-add c) (constructor-decoded (constructorOffset c) (t .constructor c l .1))),
+        numbered-all (λ g. functionOf bytes (headOffset bytes g)) (byteAt bytes 3) 0
+            (λ g l. rw (zero-add g) (function-decoded (headOffset bytes g) (t .function g l))),
+        numbered-all (λ c. constructorOf (constructorAt bytes (constructorOffset c))) (byteAt bytes 2) 0
+            (λ c l. rw (zero-add c) (constructor-decoded (constructorOffset c) (t .constructor c l .1))),
       )

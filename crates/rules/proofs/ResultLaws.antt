@@ -10,7 +10,7 @@ use Rattle.rules.specs.declared.records.Alternative.{Alternative}
 use Rattle.rules.specs.Lists.{All, _l∷_}
 use Rattle.rules.specs.Program.{Constructor, Function, Program, constructor, function}
 use Rattle.rules.specs.Tree.{Trees, node, nil, cons, fromList, made}
-use Rattle.rules.specs.Machine.{Value, State, start}
+use Rattle.rules.specs.Machine.{Value, start}
 use Rattle.rules.specs.Values.{weighted, size, sizeOfAll, sizes, Has, AllHave, valueAt, boundAt}
 use Rattle.rules.specs.Prefix.{arityOf, values, written, writtenAll}
 use Rattle.rules.specs.Facts.{ResultFact}
@@ -47,7 +47,8 @@ module _ (s : Program) where
     size-most c nil = zero-le
     size-most c (cons v vs) = one (constructor s c) refl
       where
-        one : (o : Option Constructor) → constructor s c ≡ o → weighted o (cons v vs) (size s v + sizeOfAll s vs) ≤ 255 + (size s v + sizeOfAll s vs)
+        one : (o : Option Constructor) → constructor s c ≡ o
+            → weighted o (cons v vs) (size s v + sizeOfAll s vs) ≤ 255 + (size s v + sizeOfAll s vs)
         one none e = omega arith
         one (some k) e = omega (arith, W .most c k e)
 
@@ -57,15 +58,20 @@ module _ (s : Program) where
     values-small [] = zero-le
     values-small (c ∷ bytes) = one (arityOf (constructor s c)) (values s bytes) (values-small bytes)
       where
-        one : (n : ℕ) (later : List Value) → total (sizes s later) ≤ 255 * length bytes → size s (made c (take n later)) + total (sizes s (drop n later)) ≤ 255 * suc (length bytes)
+        one : (n : ℕ) (later : List Value) → total (sizes s later) ≤ 255 * length bytes
+            → size s (made c (take n later)) + total (sizes s (drop n later)) ≤ 255 * suc (length bytes)
         one n later h =
-            let front : sizeOfAll s (fromList (take n later)) ≡ total (sizes s (take n later)) = size-total s (fromList (take n later)) ∙ ap (λ (l : List Value). total (sizes s l)) (to-from (take n later)) in
+            let front : sizeOfAll s (fromList (take n later)) ≡ total (sizes s (take n later)) = size-total s (fromList (take n later))
+            ∙ ap (λ (l : List Value). total (sizes s l)) (to-from (take n later)) in
             let whole : total (sizes s (take n later)) + total (sizes s (drop n later)) ≡ total (sizes s later) =
-            sym (total-append (sizes s (take n later)) (sizes s (drop n later))) ∙ ap total (sym (map-append (size s) (take n later) (drop n later))) ∙ ap (λ (l : List Value). total (sizes s l)) (take-append-drop n later) in
+            sym (total-append (sizes s (take n later)) (sizes s (drop n later)))
+            ∙ ap total (sym (map-append (size s) (take n later) (drop n later)))
+            ∙ ap (λ (l : List Value). total (sizes s l)) (take-append-drop n later) in
             omega (arith, size-most c (fromList (take n later)))
 
     -- what is written of a typed value
-    node-small : (c : ℕ) (vs : Trees ℕ) (k : Constructor) → constructor s c ≡ some k → length (writtenAll vs) ≤ length (k .arguments) + 4 * sizeOfAll s vs → length (written (node c vs)) ≤ 1 + 4 * size s (node c vs)
+    node-small : (c : ℕ) (vs : Trees ℕ) (k : Constructor) → constructor s c ≡ some k
+        → length (writtenAll vs) ≤ length (k .arguments) + 4 * sizeOfAll s vs → length (written (node c vs)) ≤ 1 + 4 * size s (node c vs)
     unfolding written
     node-small c nil k e h = omega arith
     node-small c (cons v vs) k e h = rw e (omega (arith, W .least c k e))
@@ -80,7 +86,8 @@ module _ (s : Program) where
       written-all-small nil [] h = omega arith
       written-all-small nil (t ∷ ts) h = absurd h
       written-all-small (cons v vs) [] h = absurd h
-      written-all-small (cons v vs) (t ∷ ts) h = rw (length-append (written v) (writtenAll vs)) (omega (arith, written-small v t (h .0), written-all-small vs ts (h .1)))
+      written-all-small (cons v vs) (t ∷ ts) h =
+          rw (length-append (written v) (writtenAll vs)) (omega (arith, written-small v t (h .0), written-all-small vs ts (h .1)))
 
 ---- The program
 
@@ -88,18 +95,22 @@ module _ {bytes : List ℕ} {s : Program} (P : Passed bytes s) (small : All (λ 
   weights : Weights s
   weights = record { most = weight-most P small; least = weight-least P small }
 
-  alternative-small : (zs : List ℕ) (a : Alternative) → All (λ c. c ≤ 15) (a .coefficients) × (a .constant ≤ 65535) → valueAt zs a ≤ 65535 + 15 * total zs
+  alternative-small : (zs : List ℕ) (a : Alternative) → All (λ c. c ≤ 15) (a .coefficients) × (a .constant ≤ 65535)
+      → valueAt zs a ≤ 65535 + 15 * total zs
   alternative-small zs a d = omega (arith, dot-most (a .coefficients) zs (d .0), d .1)
 
-  limit-small : (n : ℕ) (f : Function) → function s n ≡ some f → (args : List ℕ) → length args ≤ 65535 → boundAt (f .bound) (sizes s (values s args)) ≤ 250736910
+  limit-small : (n : ℕ) (f : Function) → function s n ≡ some f → (args : List ℕ) → length args ≤ 65535
+      → boundAt (f .bound) (sizes s (values s args)) ≤ 250736910
   limit-small n f e args h =
-      le-trans (bound-small (f .bound) (sizes s (values s args)) (65535 + 15 * total (sizes s (values s args))) (all-map (alternative-small (sizes s (values s args))) (bound-numbers P small n f e)))
+      le-trans (bound-small (f .bound) (sizes s (values s args)) (65535 + 15 * total (sizes s (values s args)))
+      (all-map (alternative-small (sizes s (values s args))) (bound-numbers P small n f e)))
       (omega (arith, values-small s weights args))
 
 pub result-fact : ResultFact
 result-fact file s small e entry f at-f args right k st v r w =
     let P = checked-parts file s e in
     let a = arguments-typed s f args right in
-    let good = kept-after P entry f at-f (values s args) (a .1) k (start entry (values s args)) st (begins P entry f at-f (values s args) (a .1)) r in
+    let good = kept-after P entry f at-f (values s args) (a .1) k (start entry (values s args)) st
+    (begins P entry f at-f (values s args) (a .1)) r in
     let kept = result-kept P entry f at-f (values s args) (a .1) st v good w in
     omega (arith, written-small s (weights P small) v (f .result) (kept .0), kept .1, limit-small P small entry f at-f args (a .0))

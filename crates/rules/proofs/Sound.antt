@@ -20,20 +20,25 @@ use Rattle.rules.specs.Forms.{formOf, intoBound, covers}
 use Rattle.rules.specs.Shapes.{Shape, coveredAt, withStack, splitVariable, branchOn, shapeFrom, shapeRule, startShape}
 use Rattle.rules.specs.Lists.{All, All2, a[], _a∷_}
 use Rattle.rules.specs.Values.{size, sizes, Has, Typed}
-use Rattle.rules.specs.Machine.{Value, Frame, State, start, onward, at, top, current, answered, execute, step, returned, resultOf}
-use Rattle.rules.proofs.ListLaws.{some-inj, all2-length, all2-append, all2-slot, all2-slots, all2-split, all2-splits, all2-maps, all-one, all-two, all2-also, all-from, all-last, all-true}
+use Rattle.rules.specs.Machine.{Value, Frame, State, start, onward, frameAt, top, current, answered, execute, step, returned}
+use Rattle.rules.specs.Machine.{resultOf}
+use Rattle.rules.proofs.ListLaws.{some-inj, all2-length, all2-append, all2-slot, all2-slots, all2-split, all2-splits, all2-maps}
+use Rattle.rules.proofs.ListLaws.{all-one, all-two, all2-also, all-from, all-last, all-true}
 use Rattle.rules.proofs.FormLaws.{Under, into-over, covers-under}
-use Rattle.rules.proofs.Models.{Light, to-from, have-list, have-trees, Models, models-list, models-trees, models-under, called-under, models-over, models-replaced, models-fresh}
-use Rattle.rules.proofs.RuleLaws.{type-load, type-build, type-call, type-branch, type-return, shape-covered, shape-load, shape-build, shape-call, shape-branch, branch-variable, branch-built, branch-called}
+use Rattle.rules.proofs.Models.{Light, to-from, have-list, have-trees, Models, models-list, models-trees, models-under, called-under}
+use Rattle.rules.proofs.Models.{models-over, models-replaced, models-fresh}
+use Rattle.rules.proofs.RuleLaws.{type-load, type-build, type-call, type-branch, type-return, shape-covered, shape-load, shape-build}
+use Rattle.rules.proofs.RuleLaws.{shape-call, shape-branch, branch-variable, branch-built, branch-called}
 
 -- an arrow leads to what the table has there
-abbrev pub Leads : {S : Type 0} → (ℕ → Option S) → Arrow S → Type 0
-Leads tab a = tab (a .0) ≡ some (a .1)
+abbrev pub LeadsOn : {S : Type 0} → (ℕ → Option S) → Arrow S → Type 0
+LeadsOn tab a = tab (a .0) ≡ some (a .1)
 
 -- a table that holds of every instruction at once
 abbrev pub Stands : {S : Type 0} → (ℕ → Option S) → (ℕ → Instruction → S → Tried (List (Arrow S))) → List Instruction → Type 0
 Stands {S} tab rule code =
-    (i : ℕ) (x : S) → tab i ≡ some x → (ins : Instruction) × (slot i code ≡ some ins) × (M : List (Arrow S)) × (rule i ins x ≡ found M) × All (Leads tab) M
+    (i : ℕ) (x : S) → tab i ≡ some x → (ins : Instruction) × (slot i code ≡ some ins) × (M : List (Arrow S)) × (rule i ins x ≡ found M)
+    × All (LeadsOn tab) M
 
 pub record AcceptedFn (s : Program) (n : ℕ) (f : Function) (ty : ℕ → Option (List ℕ)) (sh : ℕ → Option Shape) : Type 0 where
   pub few : arity f ≤ 16
@@ -42,7 +47,8 @@ pub record AcceptedFn (s : Program) (n : ℕ) (f : Function) (ty : ℕ → Optio
   pub shape-start : sh 1 ≡ some (startShape f)
   pub shape-on : Stands sh (shapeRule s n f) (f .code)
 
-module _ (s : Program) (ty : ℕ → ℕ → Option (List ℕ)) (sh : ℕ → ℕ → Option Shape) (light : Light s) (acc : (n : ℕ) (f : Function) → function s n ≡ some f → AcceptedFn s n f (ty n) (sh n))
+module _ (s : Program) (ty : ℕ → ℕ → Option (List ℕ)) (sh : ℕ → ℕ → Option Shape) (light : Light s)
+    (acc : (n : ℕ) (f : Function) → function s n ≡ some f → AcceptedFn s n f (ty n) (sh n))
     (R : ℕ) (Lim : ℕ → Type 0) where
   ---- The invariant
 
@@ -66,7 +72,8 @@ module _ (s : Program) (ty : ℕ → ℕ → Option (List ℕ)) (sh : ℕ → �
   pub data Chain : ℕ → List Value → List Frame → Type 0 where
     bottom : {g : ℕ} {vs : List Value} (G : Function) → function s g ≡ some G → G .result ≡ R → Chain g vs []
     waits : {g : ℕ} {vs : List Value} {fr : Frame} {us : List Value} {frs : List Frame} (G : Function) (rest : List Value)
-        → function s g ≡ some G → current s fr ≡ some (Call g) → split (length (G .parameters)) (fr .stack) ≡ some (rest, vs) → FrameOk fr us
+        → function s g ≡ some G → current s fr ≡ some (Call g) → split (length (G .parameters)) (fr .stack) ≡ some (rest, vs)
+        → FrameOk fr us
         → ((v : Value) → Has s v (G .result) → Under (sizes s vs) (size s v) (G .bound) → FrameOk (onward fr (push rest v)) us)
         → Chain (fr .function) us frs → Chain g vs (fr ∷ frs)
 
@@ -75,19 +82,20 @@ module _ (s : Program) (ty : ℕ → ℕ → Option (List ℕ)) (sh : ℕ → �
     running : {fr : Frame} {us : List Value} {frs : List Frame} → FrameOk fr us → Chain (fr .function) us frs → Inv (fr ∷ frs)
 
   -- a state steps to a good one, or has a result that is good
-  pub data Goes (st : State) : Type 0 where
-    stepped : (next : State) → step s st ≡ some next → Inv next → Goes st
-    resulted : (v : Value) → resultOf s st ≡ some v → step s st ≡ none → Has s v R → Lim (size s v) → Goes st
+  pub data GoesOn (st : State) : Type 0 where
+    stepped : (next : State) → step s st ≡ some next → Inv next → GoesOn st
+    resulted : (v : Value) → resultOf s st ≡ some v → step s st ≡ none → Has s v R → Lim (size s v) → GoesOn st
 
   -- an instruction of the top frame is carried out, to a good state
   Done : Instruction → Frame → List Frame → Type 0
   Done ins fr frs = (next : State) × (execute s ins fr frs ≡ some next) × Inv next
 
   Ahead : {S : Type 0} → (ℕ → Option S) → List (Arrow S) → Type 0
-  Ahead tab M = All (Leads tab) M
+  Ahead tab M = All (LeadsOn tab) M
 
   reframe : {fr : Frame} {us : List Value} (k : FrameOk fr us) (j : ℕ) {st : List Value} {ts : List ℕ} {es : List Expression}
-      → ty (fr .function) j ≡ some ts → Typed s st ts → sh (fr .function) j ≡ some (withStack (k .shape) es) → All2 (Models s (Unit {0}) (k .ρ)) st es → FrameOk (at j fr st) us
+      → ty (fr .function) j ≡ some ts → Typed s st ts → sh (fr .function) j ≡ some (withStack (k .shape) es)
+      → All2 (Models s (Unit {0}) (k .ρ)) st es → FrameOk (frameAt j fr st) us
   reframe {fr} k j {ts} {es} te h se m =
       record {
         f = k .f;
@@ -114,13 +122,16 @@ module _ (s : Program) (ty : ℕ → ℕ → Option (List ℕ)) (sh : ℕ → �
   unfolding coveredAt Covered
   covered n i f e x h =
       let r = acc n f e .shape-on i x h in
-      all-true (λ e. covers (intoBound (f .bound) (map (formOf s) (x .parameters))) (formOf s e)) (λ e w. w) (x .stack) (shape-covered s n f i (r .0) x (r .3) .0)
+      all-true (λ e. covers (intoBound (f .bound) (map (formOf s) (x .parameters))) (formOf s e)) (λ e w. w) (x .stack)
+      (shape-covered s n f i (r .0) x (r .3) .0)
 
   -- what is under a covered entry's form is under the bound at the call's arguments
-  covered-under : {fr : Frame} {us : List Value} (k : FrameOk fr us) (n : ℕ) (e : Expression) → Covered (k .f) (k .shape) e → Under (sizes s (k .ρ)) n (formOf s e) → Under (sizes s us) n (k .f .bound)
+  covered-under : {fr : Frame} {us : List Value} (k : FrameOk fr us) (n : ℕ) (e : Expression) → Covered (k .f) (k .shape) e
+      → Under (sizes s (k .ρ)) n (formOf s e) → Under (sizes s us) n (k .f .bound)
   unfolding Covered
   covered-under k n e c u =
-      into-over (sizes s (k .ρ)) (k .f .bound) n (all2-maps (size s) (formOf s) (λ v p h. models-over s light (k .ρ) (k .wide) p v h) (k .parameters))
+      into-over (sizes s (k .ρ)) (k .f .bound) n
+      (all2-maps (size s) (formOf s) (λ v p h. models-over s light (k .ρ) (k .wide) p v h) (k .parameters))
       (covers-under (sizes s (k .ρ)) n (intoBound (k .f .bound) (map (formOf s) (k .shape .parameters))) (formOf s e) c u)
 
   pub within : {fr : Frame} {us : List Value} (k : FrameOk fr us) → All (λ v. Under (sizes s us) (size s v) (k .f .bound)) (fr .stack)
@@ -130,9 +141,11 @@ module _ (s : Program) (ty : ℕ → ℕ → Option (List ℕ)) (sh : ℕ → �
 
   ---- Load
 
-  load-ok : {fr : Frame} {us : List Value} {frs : List Frame} (k : FrameOk fr us) → Chain (fr .function) us frs → (a : ℕ) {M : List (Arrow (List ℕ))} {N : List (Arrow Shape)}
+  load-ok : {fr : Frame} {us : List Value} {frs : List Frame} (k : FrameOk fr us) → Chain (fr .function) us frs
+      → (a : ℕ) {M : List (Arrow (List ℕ))} {N : List (Arrow Shape)}
       → typeRule s (fr .function) (k .f) (fr .instruction) (Load a) (k .ts) ≡ found M → Ahead (ty (fr .function)) M
-      → shapeFrom s (fr .function) (k .f) (fr .instruction) (Load a) (k .shape) ≡ found N → Ahead (sh (fr .function)) N → Done (Load a) fr frs
+      → shapeFrom s (fr .function) (k .f) (fr .instruction) (Load a) (k .shape) ≡ found N → Ahead (sh (fr .function)) N
+      → Done (Load a) fr frs
   unfolding Done Ahead execute
   load-ok {fr} {us} {frs} k ch a et mt es ms =
       let t = type-load s (fr .function) (k .f) (fr .instruction) a (k .ts) et in
@@ -146,9 +159,11 @@ module _ (s : Program) (ty : ℕ → ℕ → Option (List ℕ)) (sh : ℕ → �
 
   ---- Build
 
-  build-ok : {fr : Frame} {us : List Value} {frs : List Frame} (k : FrameOk fr us) → Chain (fr .function) us frs → (c : ℕ) {M : List (Arrow (List ℕ))} {N : List (Arrow Shape)}
+  build-ok : {fr : Frame} {us : List Value} {frs : List Frame} (k : FrameOk fr us) → Chain (fr .function) us frs
+      → (c : ℕ) {M : List (Arrow (List ℕ))} {N : List (Arrow Shape)}
       → typeRule s (fr .function) (k .f) (fr .instruction) (Build c) (k .ts) ≡ found M → Ahead (ty (fr .function)) M
-      → shapeFrom s (fr .function) (k .f) (fr .instruction) (Build c) (k .shape) ≡ found N → Ahead (sh (fr .function)) N → Done (Build c) fr frs
+      → shapeFrom s (fr .function) (k .f) (fr .instruction) (Build c) (k .shape) ≡ found N → Ahead (sh (fr .function)) N
+      → Done (Build c) fr frs
   unfolding Done Ahead execute
   build-ok {fr} {us} {frs} k ch c et mt es ms =
       let t = type-build s (fr .function) (k .f) (fr .instruction) c (k .ts) et in
@@ -170,7 +185,8 @@ module _ (s : Program) (ty : ℕ → ℕ → Option (List ℕ)) (sh : ℕ → �
   ---- Call
 
   -- the frame of a function that is called
-  pub entered : (g : ℕ) (G : Function) → function s g ≡ some G → (vs : List Value) → Typed s vs (G .parameters) → ((n : ℕ) → Under (sizes s vs) n (G .bound) → Lim n)
+  pub entered : (g : ℕ) (G : Function) → function s g ≡ some G → (vs : List Value) → Typed s vs (G .parameters)
+      → ((n : ℕ) → Under (sizes s vs) n (G .bound) → Lim n)
       → FrameOk (record { function = g; instruction = 1; stack = vs }) vs
   unfolding startShape
   entered g G e vs h l =
@@ -192,9 +208,11 @@ module _ (s : Program) (ty : ℕ → ℕ → Option (List ℕ)) (sh : ℕ → �
         limited = l;
       }
 
-  call-ok : {fr : Frame} {us : List Value} {frs : List Frame} (k : FrameOk fr us) → Chain (fr .function) us frs → (g : ℕ) → current s fr ≡ some (Call g) → {M : List (Arrow (List ℕ))} {N : List (Arrow Shape)}
+  call-ok : {fr : Frame} {us : List Value} {frs : List Frame} (k : FrameOk fr us) → Chain (fr .function) us frs → (g : ℕ)
+      → current s fr ≡ some (Call g) → {M : List (Arrow (List ℕ))} {N : List (Arrow Shape)}
       → typeRule s (fr .function) (k .f) (fr .instruction) (Call g) (k .ts) ≡ found M → Ahead (ty (fr .function)) M
-      → shapeFrom s (fr .function) (k .f) (fr .instruction) (Call g) (k .shape) ≡ found N → Ahead (sh (fr .function)) N → Done (Call g) fr frs
+      → shapeFrom s (fr .function) (k .f) (fr .instruction) (Call g) (k .shape) ≡ found N → Ahead (sh (fr .function)) N
+      → Done (Call g) fr frs
   unfolding Done Ahead execute Covered
   call-ok {fr} {us} {frs} k ch g ec et mt es ms =
       let t = type-call s (fr .function) (k .f) (fr .instruction) g (k .ts) et in
@@ -206,31 +224,39 @@ module _ (s : Program) (ty : ℕ → ℕ → Option (List ℕ)) (sh : ℕ → �
       let args = v .0 .1 in
       let entry : Expression = made (called g) (e .2 .1) in
       let again-at = all-one (e .4) ms in
-      let models : (w : Value) → Under (sizes s args) (size s w) (G .bound) → Models s (Unit {0}) (k .ρ) w entry = λ w u. (args, tt, G, t .1, u, models-trees s (p .1)) in
+      let models : (w : Value) → Under (sizes s args) (size s w) (G .bound) → Models s (Unit {0}) (k .ρ) w entry =
+      λ w u. (args, tt, G, t .1, u, models-trees s (p .1)) in
       let limit : (n : ℕ) → Under (sizes s args) n (G .bound) → Lim n = λ n u. k .limited n (covered-under k n entry
-      (all-last (e .2 .0) (covered (fr .function) (suc (fr .instruction)) (k .f) (k .at-f) (withStack (k .shape) (push (e .2 .0) entry)) again-at)) (called-under s light (Unit {0}) (k .ρ) (k .wide) g G (t .1) (fromList (e .2 .1)) args (models-trees s (p .1)) n u)) in (
+      (all-last (e .2 .0) (covered (fr .function) (suc (fr .instruction)) (k .f) (k .at-f) (withStack (k .shape) (push (e .2 .0) entry))
+      again-at)) (called-under s light (Unit {0}) (k .ρ) (k .wide) g G (t .1) (fromList (e .2 .1)) args (models-trees s (p .1)) n u)) in (
         start g args ++ fr ∷ frs,
         rw (t .1, v .1),
         running (entered g G (t .1) args (v .3) limit)
             (waits G (v .0 .0) (t .1) ec (v .1) k
-            (λ w h u. reframe k (suc (fr .instruction)) (all-one (t .4) mt) (all2-append (v .2) (h a∷ a[])) again-at (all2-append (p .0) (models w u a∷ a[]))) ch),
+            (λ w h u. reframe k (suc (fr .instruction)) (all-one (t .4) mt) (all2-append (v .2) (h a∷ a[]))
+            again-at (all2-append (p .0) (models w u a∷ a[]))) ch),
       )
 
   ---- Branch
 
   -- the parts of a value whose constructor is known
-  parts-of : (c : ℕ) (K : Constructor) → constructor s c ≡ some K → (vs : Trees ℕ) (t : ℕ) → Has s (node c vs) t → Typed s (toList vs) (K .arguments)
+  parts-of : (c : ℕ) (K : Constructor) → constructor s c ≡ some K → (vs : Trees ℕ) (t : ℕ) → Has s (node c vs) t
+      → Typed s (toList vs) (K .arguments)
   parts-of c K e vs t h = have-list s vs (K .arguments) (rw (some-inj (sym (h .1) ∙ e)) at (h .3))
 
   -- a variable with this constructor is split: its parts are values for fresh variables
-  split-ok : {fr : Frame} {us : List Value} (k : FrameOk fr us) (c : ℕ) (K : Constructor) → constructor s c ≡ some K → (x : ℕ) (vs : Trees ℕ) → getElem? (k .ρ) x ≡ some (node c vs) → Typed s (toList vs) (K .arguments)
-      → k .shape .count + length (K .arguments) ≤ 16 → (rest : List Value) (tr : List ℕ) (es : List Expression) → Typed s rest tr → All2 (Models s (Unit {0}) (k .ρ)) rest es
+  split-ok : {fr : Frame} {us : List Value} (k : FrameOk fr us) (c : ℕ) (K : Constructor) → constructor s c ≡ some K
+      → (x : ℕ) (vs : Trees ℕ) → getElem? (k .ρ) x ≡ some (node c vs) → Typed s (toList vs) (K .arguments)
+      → k .shape .count + length (K .arguments) ≤ 16 → (rest : List Value) (tr : List ℕ) (es : List Expression) → Typed s rest tr
+      → All2 (Models s (Unit {0}) (k .ρ)) rest es
       → ty (fr .function) (suc (fr .instruction)) ≡ some (tr ++ K .arguments)
-      → sh (fr .function) (suc (fr .instruction)) ≡ some (splitVariable (k .shape) es x c (length (K .arguments))) → FrameOk (onward fr (rest ++ toList vs)) us
+      → sh (fr .function) (suc (fr .instruction)) ≡ some (splitVariable (k .shape) es x c (length (K .arguments)))
+      → FrameOk (onward fr (rest ++ toList vs)) us
   unfolding splitVariable
   split-ok {fr} k c K ck x vs ax tv few rest tr es hr mr te se =
       let len : length (toList vs) ≡ length (K .arguments) = all2-length tv in
-      let total : length (k .ρ ++ toList vs) ≡ k .shape .count + length (K .arguments) = length-append (k .ρ) (toList vs) ∙ rw (k .counted, len) in
+      let total : length (k .ρ ++ toList vs) ≡ k .shape .count + length (K .arguments) = length-append (k .ρ) (toList vs)
+      ∙ rw (k .counted, len) in
       record {
         f = k .f;
         at-f = k .at-f;
@@ -243,7 +269,9 @@ module _ (s : Program) (ty : ℕ → ℕ → Option (List ℕ)) (sh : ℕ → �
         counted = total;
         wide = rw total few;
         parameters = models-replaced s ⊥ (k .ρ) (toList vs) x (node c vs) ax (made (built c) new) (is ⊥) (k .parameters);
-        entries = all2-append (models-replaced s (Unit {0}) (k .ρ) (toList vs) x (node c vs) ax (made (built c) new) (is (Unit {0})) mr) (fresh (Unit {0}));
+        entries =
+            all2-append (models-replaced s (Unit {0}) (k .ρ) (toList vs) x (node c vs) ax (made (built c) new) (is (Unit {0})) mr)
+            (fresh (Unit {0}));
         limited = k .limited;
       }
     where
@@ -256,42 +284,60 @@ module _ (s : Program) (ty : ℕ → ℕ → Option (List ℕ)) (sh : ℕ → �
       is : (C : Type 0) → Models s C (k .ρ ++ toList vs) (node c vs) (made (built c) (variables (k .shape .count) (length (K .arguments))))
       is C = (vs, refl, K, ck, all2-length tv, models-trees s (fresh C))
 
-  branch-top : {fr : Frame} {us : List Value} {frs : List Frame} (k : FrameOk fr us) → Chain (fr .function) us frs → (c b : ℕ) (K : Constructor) → constructor s c ≡ some K
-      → {q₀ q₁ : List Value} {p₀ p₁ : List Expression} {tr : List ℕ} {N : List (Arrow Shape)} → split 1 (fr .stack) ≡ some (q₀, q₁) → Typed s q₀ tr → Typed s q₁ (K .result ∷ [])
+  branch-top : {fr : Frame} {us : List Value} {frs : List Frame} (k : FrameOk fr us) → Chain (fr .function) us frs
+      → (c b : ℕ) (K : Constructor) → constructor s c ≡ some K
+      → {q₀ q₁ : List Value} {p₀ p₁ : List Expression} {tr : List ℕ} {N : List (Arrow Shape)} → split 1 (fr .stack) ≡ some (q₀, q₁)
+      → Typed s q₀ tr → Typed s q₁ (K .result ∷ [])
       → All2 (Models s (Unit {0}) (k .ρ)) q₀ p₀ → All2 (Models s (Unit {0}) (k .ρ)) q₁ p₁
       → ty (fr .function) (suc (fr .instruction)) ≡ some (tr ++ K .arguments) → ty (fr .function) b ≡ some (k .ts)
-      → branchOn s (fr .function) (k .f) (fr .instruction) (k .shape) p₀ c (length (K .arguments)) b p₁ ≡ found N → Ahead (sh (fr .function)) N → Done (Branch c b) fr frs
+      → branchOn s (fr .function) (k .f) (fr .instruction) (k .shape) p₀ c (length (K .arguments)) b p₁ ≡ found N
+      → Ahead (sh (fr .function)) N → Done (Branch c b) fr frs
   unfolding Done Ahead execute
-  branch-top {fr} {us} {frs} k ch c b K ck {q₀} {p₀} {tr} cut h₀ (_a∷_ {x = node d vs} h a[]) m₀ (_a∷_ {y = node (variable x) ts} m a[]) ta tb e ms =
+  branch-top {fr} {us} {frs} k ch c b K ck {q₀} {p₀} {tr} cut h₀ (_a∷_ {x = node d vs} h a[]) m₀ (_a∷_ {y = node (variable x) ts} m a[]) ta
+      tb e ms =
       let r = branch-variable s (fr .function) (k .f) (fr .instruction) (k .shape) p₀ c (length (K .arguments)) b x ts [] e in
       let on = all-two (r .1) ms in
       test (r .0) (on .0) (on .1) (eqb d c) refl
     where
-      test : k .shape .count + length (K .arguments) ≤ 16 → sh (fr .function) (suc (fr .instruction)) ≡ some (splitVariable (k .shape) p₀ x c (length (K .arguments)))
-          → sh (fr .function) b ≡ some (k .shape) → (t : Bool) → eqb d c ≡ t → (next : State) × (execute s (Branch c b) fr frs ≡ some next) × Inv next
+      test : k .shape .count + length (K .arguments) ≤ 16
+          → sh (fr .function) (suc (fr .instruction)) ≡ some (splitVariable (k .shape) p₀ x c (length (K .arguments)))
+          → sh (fr .function) b ≡ some (k .shape) → (t : Bool) → eqb d c ≡ t → (next : State) × (execute s (Branch c b) fr frs ≡ some next)
+          × Inv next
       test few s₁ s₂ true w =
-          let dc : d ≡ c = eqb-true d c w in
-          (onward fr (q₀ ++ toList vs) ∷ frs, rw (cut, w), running (split-ok k c K ck x vs (rw dc at m) (parts-of c K ck vs (K .result) (rw dc at h)) few q₀ tr p₀ h₀ m₀ ta s₁) ch)
-      test few s₁ s₂ false w = (at b fr (fr .stack) ∷ frs, rw (cut, w), running (reframe k b tb (k .typed) s₂ (k .entries)) ch)
-  branch-top {fr} {us} {frs} k ch c b K ck {q₀} {p₀} {tr} cut h₀ (_a∷_ {x = node d vs} h a[]) m₀ (_a∷_ {y = node (built j) ts} m a[]) ta tb e ms =
+          let dc : d ≡ c = eqb-true d c w in (
+            onward fr (q₀ ++ toList vs) ∷ frs,
+            rw (cut, w),
+            running (split-ok k c K ck x vs (rw dc at m)
+                (parts-of c K ck vs (K .result) (rw dc at h)) few q₀ tr p₀ h₀ m₀ ta s₁) ch,
+          )
+      test few s₁ s₂ false w = (frameAt b fr (fr .stack) ∷ frs, rw (cut, w), running (reframe k b tb (k .typed) s₂ (k .entries)) ch)
+  branch-top {fr} {us} {frs} k ch c b K ck {q₀} {p₀} {tr} cut h₀ (_a∷_ {x = node d vs} h a[]) m₀ (_a∷_ {y = node (built j) ts} m a[]) ta tb
+      e ms =
       let eq : node d vs ≡ node j (m .0) = m .1 in
       let dj : d ≡ j = cc in
       let vv : vs ≡ m .0 = cc in
-      test (models-list s ts (toList (m .0)) (m .5)) vv (eqb d c) refl (all-one (branch-built s (fr .function) (k .f) (fr .instruction) (k .shape) p₀ c (length (K .arguments)) b j ts [] e ∙ rw dj) ms)
+      test (models-list s ts (toList (m .0)) (m .5)) vv (eqb d c) refl
+      (all-one (branch-built s (fr .function) (k .f) (fr .instruction) (k .shape) p₀ c (length (K .arguments)) b j ts [] e ∙ rw dj) ms)
     where
       test : {ws : Trees ℕ} → All2 (Models s (Unit {0}) (k .ρ)) (toList ws) (toList ts) → vs ≡ ws → (t : Bool) → eqb d c ≡ t
-          → Leads (sh (fr .function)) (if t then (suc (fr .instruction), withStack (k .shape) (p₀ ++ toList ts)) else (b, k .shape))
+          → LeadsOn (sh (fr .function)) (if t then (suc (fr .instruction), withStack (k .shape) (p₀ ++ toList ts)) else (b, k .shape))
           → (next : State) × (execute s (Branch c b) fr frs ≡ some next) × Inv next
       test mt vv true w on =
-          let dc : d ≡ c = eqb-true d c w in
-          (onward fr (q₀ ++ toList vs) ∷ frs, rw (cut, w), running (reframe k (suc (fr .instruction)) ta (all2-append h₀ (parts-of c K ck vs (K .result) (rw dc at h))) on (all2-append m₀ (rw vv mt))) ch)
-      test mt vv false w on = (at b fr (fr .stack) ∷ frs, rw (cut, w), running (reframe k b tb (k .typed) on (k .entries)) ch)
+          let dc : d ≡ c = eqb-true d c w in (
+            onward fr (q₀ ++ toList vs) ∷ frs,
+            rw (cut, w),
+            running (reframe k (suc (fr .instruction)) ta
+                (all2-append h₀ (parts-of c K ck vs (K .result) (rw dc at h))) on (all2-append m₀ (rw vv mt))) ch,
+          )
+      test mt vv false w on = (frameAt b fr (fr .stack) ∷ frs, rw (cut, w), running (reframe k b tb (k .typed) on (k .entries)) ch)
   branch-top {fr} k ch c b K ck {p₀} cut h₀ (h a∷ a[]) m₀ (_a∷_ {y = node (called g) ts} m a[]) ta tb e ms =
       absurd (branch-called s (fr .function) (k .f) (fr .instruction) (k .shape) p₀ c (length (K .arguments)) b g ts [] e)
 
-  branch-ok : {fr : Frame} {us : List Value} {frs : List Frame} (k : FrameOk fr us) → Chain (fr .function) us frs → (c b : ℕ) {M : List (Arrow (List ℕ))} {N : List (Arrow Shape)}
+  branch-ok : {fr : Frame} {us : List Value} {frs : List Frame} (k : FrameOk fr us) → Chain (fr .function) us frs
+      → (c b : ℕ) {M : List (Arrow (List ℕ))} {N : List (Arrow Shape)}
       → typeRule s (fr .function) (k .f) (fr .instruction) (Branch c b) (k .ts) ≡ found M → Ahead (ty (fr .function)) M
-      → shapeFrom s (fr .function) (k .f) (fr .instruction) (Branch c b) (k .shape) ≡ found N → Ahead (sh (fr .function)) N → Done (Branch c b) fr frs
+      → shapeFrom s (fr .function) (k .f) (fr .instruction) (Branch c b) (k .shape) ≡ found N → Ahead (sh (fr .function)) N
+      → Done (Branch c b) fr frs
   unfolding Ahead
   branch-ok {fr} k ch c b et mt es ms =
       let t = type-branch s (fr .function) (k .f) (fr .instruction) c b (k .ts) et in
@@ -305,23 +351,27 @@ module _ (s : Program) (ty : ℕ → ℕ → Option (List ℕ)) (sh : ℕ → �
   ---- Return
 
   -- the top value of a frame at its return
-  returns : {fr : Frame} {us : List Value} (k : FrameOk fr us) {M : List (Arrow (List ℕ))} → typeRule s (fr .function) (k .f) (fr .instruction) Return (k .ts) ≡ found M
+  returns : {fr : Frame} {us : List Value} (k : FrameOk fr us) {M : List (Arrow (List ℕ))}
+      → typeRule s (fr .function) (k .f) (fr .instruction) Return (k .ts) ≡ found M
       → (v : Value) × (top (fr .stack) ≡ some v) × Has s v (k .f .result) × Under (sizes s us) (size s v) (k .f .bound)
   returns {fr} {us} k et =
       let t = type-return s (fr .function) (k .f) (fr .instruction) (k .ts) et in
       let v = all2-split 1 (all2-also (k .typed) (within k)) (t .1) in
       one (v .1) (v .3)
     where
-      one : {q₀ q₁ : List Value} → split 1 (fr .stack) ≡ some (q₀, q₁) → All2 (λ v t. Has s v t × Under (sizes s us) (size s v) (k .f .bound)) q₁ (k .f .result ∷ [])
+      one : {q₀ q₁ : List Value} → split 1 (fr .stack) ≡ some (q₀, q₁)
+          → All2 (λ v t. Has s v t × Under (sizes s us) (size s v) (k .f .bound)) q₁ (k .f .result ∷ [])
           → (v : Value) × (top (fr .stack) ≡ some v) × Has s v (k .f .result) × Under (sizes s us) (size s v) (k .f .bound)
       one e (_a∷_ {x = v} h a[]) = (v, rw e, h .0, h .1)
 
   -- a result of one function is one of the same function
-  result-of : (v : Value) (us : List Value) (f g : Function) → f ≡ g → Has s v (f .result) → Under (sizes s us) (size s v) (f .bound) → Has s v (g .result) × Under (sizes s us) (size s v) (g .bound)
+  result-of : (v : Value) (us : List Value) (f g : Function) → f ≡ g → Has s v (f .result) → Under (sizes s us) (size s v) (f .bound)
+      → Has s v (g .result) × Under (sizes s us) (size s v) (g .bound)
   result-of v us f g e h u = ((rw e at h), (rw e at u))
 
-  return-ok : {fr : Frame} {us : List Value} {frs : List Frame} (k : FrameOk fr us) → Chain (fr .function) us frs → current s fr ≡ some Return → {M : List (Arrow (List ℕ))}
-      → typeRule s (fr .function) (k .f) (fr .instruction) Return (k .ts) ≡ found M → Goes (fr ∷ frs)
+  return-ok : {fr : Frame} {us : List Value} {frs : List Frame} (k : FrameOk fr us) → Chain (fr .function) us frs
+      → current s fr ≡ some Return → {M : List (Arrow (List ℕ))}
+      → typeRule s (fr .function) (k .f) (fr .instruction) Return (k .ts) ≡ found M → GoesOn (fr ∷ frs)
   unfolding step execute resultOf returned answered
   return-ok {fr} {us} k (bottom G e er) ec et =
       let v = returns k et in
@@ -340,13 +390,14 @@ module _ (s : Program) (ty : ℕ → ℕ → Option (List ℕ)) (sh : ℕ → �
 
   ---- Every instruction
 
-  done-steps : {fr : Frame} {frs : List Frame} {ins : Instruction} → current s fr ≡ some ins → Done ins fr frs → Goes (fr ∷ frs)
+  done-steps : {fr : Frame} {frs : List Frame} {ins : Instruction} → current s fr ≡ some ins → Done ins fr frs → GoesOn (fr ∷ frs)
   unfolding Done step
   done-steps ec d = stepped (d .0) (rw ec (d .1)) (d .2)
 
-  instruction-ok : {fr : Frame} {us : List Value} {frs : List Frame} (k : FrameOk fr us) → Chain (fr .function) us frs → (ins : Instruction) → current s fr ≡ some ins → {M : List (Arrow (List ℕ))} {N : List (Arrow Shape)}
+  instruction-ok : {fr : Frame} {us : List Value} {frs : List Frame} (k : FrameOk fr us) → Chain (fr .function) us frs → (ins : Instruction)
+      → current s fr ≡ some ins → {M : List (Arrow (List ℕ))} {N : List (Arrow Shape)}
       → typeRule s (fr .function) (k .f) (fr .instruction) ins (k .ts) ≡ found M → Ahead (ty (fr .function)) M
-      → shapeFrom s (fr .function) (k .f) (fr .instruction) ins (k .shape) ≡ found N → Ahead (sh (fr .function)) N → Goes (fr ∷ frs)
+      → shapeFrom s (fr .function) (k .f) (fr .instruction) ins (k .shape) ≡ found N → Ahead (sh (fr .function)) N → GoesOn (fr ∷ frs)
   instruction-ok k ch (Load a) ec et mt es ms = done-steps ec (load-ok k ch a et mt es ms)
   instruction-ok k ch (Build c) ec et mt es ms = done-steps ec (build-ok k ch c et mt es ms)
   instruction-ok k ch (Call g) ec et mt es ms = done-steps ec (call-ok k ch g ec et mt es ms)
@@ -354,7 +405,7 @@ module _ (s : Program) (ty : ℕ → ℕ → Option (List ℕ)) (sh : ℕ → �
   instruction-ok k ch Return ec et mt es ms = return-ok k ch ec et
   instruction-ok {fr} {frs} k ch Stop ec et mt es ms = done-steps ec (stop-ok fr frs)
 
-  pub goes : {fr : Frame} {us : List Value} {frs : List Frame} → FrameOk fr us → Chain (fr .function) us frs → Goes (fr ∷ frs)
+  pub goes : {fr : Frame} {us : List Value} {frs : List Frame} → FrameOk fr us → Chain (fr .function) us frs → GoesOn (fr ∷ frs)
   unfolding Ahead current
   goes {fr} k ch =
       let A = acc (fr .function) (k .f) (k .at-f) in

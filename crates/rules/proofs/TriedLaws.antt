@@ -33,11 +33,13 @@ required true r e = refl
 required false r e = absurd (refused-found e)
 
 -- something found, then more; and something required, then more
-pub after-some : {A B : Type 0} (o : Option A) (r : Refusal) (f : A → Tried B) {b : B} → (orRefuse o r >>= f) ≡ found b → (a : A) × (o ≡ some a) × (f a ≡ found b)
+pub after-some : {A B : Type 0} (o : Option A) (r : Refusal) (f : A → Tried B) {b : B} → (orRefuse o r >>= f) ≡ found b → (a : A)
+    × (o ≡ some a) × (f a ≡ found b)
 after-some none r f e = absurd (refused-found e)
 after-some (some a) r f e = (a, refl, e)
 
-pub after-required : {B : Type 0} (t : Bool) (r : Refusal) (f : Unit {0} → Tried B) {b : B} → (require t r >>= f) ≡ found b → (t ≡ true) × (f tt ≡ found b)
+pub after-required : {B : Type 0} (t : Bool) (r : Refusal) (f : Unit {0} → Tried B) {b : B} → (require t r >>= f) ≡ found b → (t ≡ true)
+    × (f tt ≡ found b)
 after-required true r f e = (refl, e)
 after-required false r f e = absurd (refused-found e)
 
@@ -51,7 +53,8 @@ module _ (P : Refusal → Type 0) where
   refuses-bind (found a) f p h = h a
   refuses-bind (refused r) f p h = p
 
-  pub refuses-required : {B : Type 0} (t : Bool) (r : Refusal) (f : Unit {0} → Tried B) → P r → Refuses P (f tt) → Refuses P (require t r >>= f)
+  pub refuses-required : {B : Type 0} (t : Bool) (r : Refusal) (f : Unit {0} → Tried B) → P r → Refuses P (f tt)
+      → Refuses P (require t r >>= f)
   refuses-required true r f p h = h
   refuses-required false r f p h = p
 
@@ -59,7 +62,8 @@ module _ (P : Refusal → Type 0) where
   refuses-require true r p = tt
   refuses-require false r p = p
 
-  pub refuses-some : {A B : Type 0} (o : Option A) (r : Refusal) (f : A → Tried B) → P r → ((a : A) → Refuses P (f a)) → Refuses P (orRefuse o r >>= f)
+  pub refuses-some : {A B : Type 0} (o : Option A) (r : Refusal) (f : A → Tried B) → P r → ((a : A) → Refuses P (f a))
+      → Refuses P (orRefuse o r >>= f)
   refuses-some none r f p h = p
   refuses-some (some a) r f p h = h a
 
@@ -74,9 +78,10 @@ same-true (x ∷ xs) (y ∷ ys) e =
     cc
 
 -- a rule that passes for each element
-pub each-found : {A B : Type 0} (rule : ℕ → A → Tried B) (n : ℕ) (xs : List A) {u : Unit {0}} → each rule n xs ≡ found u → (k : ℕ) {x : A} → getElem? xs k ≡ some x → (b : B) × (rule (n + k) x ≡ found b)
+pub each-found : {A B : Type 0} (rule : ℕ → A → Tried B) (n : ℕ) (xs : List A) {u : Unit {0}} → each rule n xs ≡ found u → (k : ℕ) {x : A}
+    → getElem? xs k ≡ some x → (b : B) × (rule (n + k) x ≡ found b)
 unfolding each
-each-found rule n [] e k h = absurd (none-some h)
+each-found rule n [] e k h = none-some h
 each-found rule n (y ∷ xs) e zero h =
     let p = bind-found (rule n y) _ e in
     (p .0, rw (add-zero n, ← some-inj h) (p .1))

@@ -23,7 +23,8 @@ module _ {out₀ : List ℕ} {at : ℕ} {bytes : List ℕ} where
   pasted-start e h = record { room = h; within = omega arith; same = refl; pasted = rw e (paste-zero out₀ at bytes) }
 
   -- one byte more
-  pub pasted-next : {i i′ j x : ℕ} {out : List ℕ} → Pasted out₀ at bytes i out → i < length bytes → i′ ≡ i + 1 → j ≡ at + i → x ≡ getD bytes i 0 → Pasted out₀ at bytes i′ (set out j x)
+  pub pasted-next : {i i′ j x : ℕ} {out : List ℕ} → Pasted out₀ at bytes i out → i < length bytes → i′ ≡ i + 1 → j ≡ at + i
+      → x ≡ getD bytes i 0 → Pasted out₀ at bytes i′ (set out j x)
   pasted-next {i} {i′} {j} {x} {out} p h n e v =
       record {
         room = p .room;
@@ -39,18 +40,30 @@ module _ {out₀ : List ℕ} {at : ℕ} {bytes : List ℕ} where
 
 ---- Bytes behind bytes
 
-pub overwritten-more : (out a b : List ℕ) (at : ℕ) → at + length a ≤ length out → overwritten (overwritten out at a) (at + length a) b ≡ overwritten out at (a ++ b)
+pub overwritten-more : (out a b : List ℕ) (at : ℕ) → at + length a ≤ length out
+    → overwritten (overwritten out at a) (at + length a) b ≡ overwritten out at (a ++ b)
 overwritten-more out a b at h =
     let w = take at out ++ a in
     let e : at + length a ≡ length w = simp (length-append, length-take) (omega arith) in
-    rw (e, take-append-seam w (drop (length w) out), drop-append-add w (drop (length w) out) (length b), drop-drop, length-append a b, ← e, append-assoc (take at out) a b, add-assoc at (length a) (length b))
+    rw (
+      e,
+      take-append-seam w (drop (length w) out),
+      drop-append-add w (drop (length w) out)
+          (length b),
+      drop-drop,
+      length-append a b,
+      ← e,
+      append-assoc (take at out) a b,
+      add-assoc at (length a) (length b),
+    )
 
 -- a front is bytes from the start on
 pub front-start : (w out : List ℕ) → overwritten out 0 w ≡ frontWritten w out
 front-start w out = rw (zero-add (length w))
 
 -- bytes behind a front that is written
-pub front-grown : (w bytes out : List ℕ) (at : ℕ) → at ≡ length w → overwritten (frontWritten w out) at bytes ≡ frontWritten (w ++ bytes) out
+pub front-grown : (w bytes out : List ℕ) (at : ℕ) → at ≡ length w
+    → overwritten (frontWritten w out) at bytes ≡ frontWritten (w ++ bytes) out
 front-grown w bytes out at e =
     rw (e, take-append-seam w (drop (length w) out), drop-append-add w (drop (length w) out) (length bytes), drop-drop, length-append)
 

@@ -19,32 +19,32 @@ use Rattle.rules.specs.Base.{Refusal, refusal, Tried, found, refused, Ch
 use Rattle.rules.specs.Run.{Ending, finished, aborted, refusedWith, Answer, answer}
 
 -- a number at an instruction of a function
-abbrev pub at : ℕ → Place → Refusal
-at number p = refusal number (p .function) (p .instruction)
+abbrev pub atPlace : ℕ → Place → Refusal
+atPlace number p = refusal number (p .function) (p .instruction)
 
 abbrev pub refusalOf : Reason → Refusal
 refusalOf reason.BadLength = refusal 1 0 0
-refusalOf (reason.BadBlockCheck block) = refusal 2 block 0
+refusalOf (reason.BadChecksum block) = refusal 2 block 0
 refusalOf (reason.BadBlock block) = refusal 3 block 0
 refusalOf (reason.BadRecord offset) = refusal 4 offset 0
 refusalOf (reason.BadConstructor c) = refusal 5 0 c
 refusalOf (reason.BadSignature f) = refusal 5 1 f
 refusalOf (reason.UnboundedArgument f argument) = refusal 6 f argument
-refusalOf (reason.BadFlow p) = at 7 p
-refusalOf (reason.BadTypes p) = at 8 p
-refusalOf (reason.TooManyForms p) = at 9 p
-refusalOf (reason.NotCovered p) = at 10 p
+refusalOf (reason.BadFlow p) = atPlace 7 p
+refusalOf (reason.BadTypes p) = atPlace 8 p
+refusalOf (reason.TooManyForms p) = atPlace 9 p
+refusalOf (reason.NotCovered p) = atPlace 10 p
 refusalOf (reason.NoEntry entry) = refusal 11 entry 0
 refusalOf reason.ArgumentsTooLong = refusal 12 65535 0
 refusalOf (reason.BadArgument offset) = refusal 12 offset 0
 refusalOf (reason.OutputTooShort needed) = refusal 13 needed 0
 refusalOf reason.BadPayload = refusal 18 0 0
-refusalOf (reason.BudgetSpent p) = at 14 p
-refusalOf (reason.OutOfCells p) = at 15 p
-refusalOf (reason.OutOfStack p) = at 16 p
-refusalOf (reason.OutOfFrames p) = at 17 p
+refusalOf (reason.BudgetSpent p) = atPlace 14 p
+refusalOf (reason.OutOfCells p) = atPlace 15 p
+refusalOf (reason.OutOfStack p) = atPlace 16 p
+refusalOf (reason.OutOfFrames p) = atPlace 17 p
 
--- check: `told r ≡ verdictOf (now (program .entry))`
+-- check: `told r ≡ verdictOf (now (file .entry))`
 abbrev pub told : Verdict → Tried Counts
 told (verdict.Accepted counts) = found counts
 told (verdict.Refused r) = refused (refusalOf r)

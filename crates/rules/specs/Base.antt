@@ -89,7 +89,7 @@ abbrev pub any : {A : Type 0} → (A → Bool) → List A → Bool
 any p [] = false
 any p (x ∷ xs) = p x || any p xs
 
----- "Numbers are little-endian"
+---- "numbers are little-endian"
 
 -- the byte at a place, and the numbers of two and four bytes there
 abbrev pub byteAt : List ℕ → ℕ → ℕ

@@ -15,15 +15,15 @@ pub data Input : Type 0 where
   packing checking : List ℕ → Input
   running : List ℕ → Lent → ℕ → List ℕ → Input
 
--- the check field of a packed block; the counts of an accepted program; the number and places of a refusal; the outcome of a run
+-- the checksum of a packed block; the counts of an accepted program; the number and places of a refusal; the outcome of a run
 pub data Output : Type 0 where
-  blockCheckIs : ℕ → Output
+  checksumIs : ℕ → Output
   accepts : ℕ → ℕ → ℕ → Output
   refuses : Refusal → Output
   ran : Outcome → Output
 
 abbrev packOutput : Tried (List ℕ) → Output
-packOutput (found block) = blockCheckIs (longAt block 508)
+packOutput (found block) = checksumIs (longAt block 508)
 packOutput (refused r) = refuses r
 
 abbrev checkOutput : Tried Counts → Output
@@ -47,7 +47,7 @@ Case = Input × Output
 
 abbrev pub cases : List Case
 cases =
-    (packing (7 ∷ []), blockCheckIs 38) ∷  -- K1
+    (packing (7 ∷ []), checksumIs 38) ∷  -- K1
     (checking roots, accepts 3 6 1) ∷  -- K2
     (checking uncounted, refuses (refusal 6 0 1)) ∷  -- K3
     (checking doubled, refuses (refusal 10 0 8)) ∷  -- K4

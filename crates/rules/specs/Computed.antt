@@ -1,25 +1,33 @@
 -- `unfolding computed` opens every definition that a closed computation of pack, unpack, check or run goes through.
 use Rattle.rules.specs.Base.{numbered, forEach, each}
-use Rattle.rules.specs.Container.{weighed, blockCheck, usedRight, blockRight, verifyBlock, verifyBlocks, lengthRight, verify, payloadOf, payload, verified, blockBody, block, blocksOf, blockCount, packed, pack, unpack}
-use Rattle.rules.specs.Records.{headerRight, declarationRight, constructorRight, headRight, alternativeRight, operation, headOffset, recordRight, functionRight, constructorsRight, functionsRight, nothingLeft, recordsRight, constructorOf, alternativeOf, instructionOf, functionOf, programOf, decode}
-use Rattle.rules.specs.Declarations.{weightRight, constructorRule, signatureRule, declarationsRight, counted, argumentRule, boundRule, boundsRight}
+use Rattle.rules.specs.Container.{weighed, checksum, usedRight, blockRight, verifyBlock, verifyBlocks, lengthRight, verify, payloadOf}
+use Rattle.rules.specs.Container.{payload, verified, blockBody, block, blocksOf, blockCount, packed, pack, unpack}
+use Rattle.rules.specs.Records.{headerRight, declarationRight, constructorRight, headRight, alternativeRight, operation, headOffset}
+use Rattle.rules.specs.Records.{recordRight, functionRight, constructorsRight, functionsRight, nothingLeft, recordsRight}
+use Rattle.rules.specs.Records.{constructorOf, alternativeOf, instructionOf, functionOf, programOf, decode}
+use Rattle.rules.specs.Declarations.{weightRight, constructorRule, signatureRule, declarationsRight, counted, argumentRule, boundRule}
+use Rattle.rules.specs.Declarations.{boundsRight}
 use Rattle.rules.specs.Stacks.{split}
 use Rattle.rules.specs.Walk.{arriving, walk}
 use Rattle.rules.specs.Flow.{flowOn, flowFrom, flowRule, flowOf, flowRight}
 use Rattle.rules.specs.Types.{same, below, typesOn, typeRule, typesOf, typesRight}
 use Rattle.rules.specs.Expressions.{variables, replace}
-use Rattle.rules.specs.Forms.{constantOnly, variableOnly, plusTimes, added, flatMap, substituted, intoBound, builtForm, calledForm, formOf, atMost, matches, covers}
+use Rattle.rules.specs.Forms.{constantOnly, variableOnly, plusTimes, added, flatMap, substituted, intoBound, builtForm, calledForm}
+use Rattle.rules.specs.Forms.{formOf, atMost, matches, covers}
 use Rattle.rules.specs.Shapes.{splitVariable, coveredAt, enter, branchOn, shapeFrom, shapeRule, startShape, shapesOf, sizesRight}
 use Rattle.rules.specs.Check.{checked, verdictOf}
 use Rattle.rules.specs.Machine.{current, answered, execute, step, after, returned, resultOf}
 use Rattle.rules.specs.Prefix.{readByte, readBytes, argumentsRight, arityOf, values, written}
-use Rattle.rules.specs.Run.{heights, fits, cellsTaken, refusalAt, endOf, stepWithin, continued, loaded, started, deliveredIn, delivered, run}
+use Rattle.rules.specs.Run.{heights, fits, cellsTaken, refusalAt, endOf, stepWithin, continued, loaded, started, deliveredIn}
+use Rattle.rules.specs.Run.{delivered, run}
 use Rattle.rules.specs.Memory.{begun}
 
 unfoldable pub computed : Unit {0}
 unfolding numbered forEach each
-    weighed blockCheck usedRight blockRight verifyBlock verifyBlocks lengthRight verify payloadOf payload verified blockBody block blocksOf blockCount packed pack unpack
-    headerRight declarationRight constructorRight headRight alternativeRight operation headOffset recordRight functionRight constructorsRight functionsRight nothingLeft recordsRight constructorOf alternativeOf instructionOf functionOf programOf decode
+    weighed checksum usedRight blockRight verifyBlock verifyBlocks lengthRight verify payloadOf payload verified blockBody block blocksOf
+    blockCount packed pack unpack
+    headerRight declarationRight constructorRight headRight alternativeRight operation headOffset recordRight functionRight
+    constructorsRight functionsRight nothingLeft recordsRight constructorOf alternativeOf instructionOf functionOf programOf decode
     weightRight constructorRule signatureRule declarationsRight counted argumentRule boundRule boundsRight
     split arriving walk
     flowOn flowFrom flowRule flowOf flowRight

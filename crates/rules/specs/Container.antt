@@ -1,10 +1,11 @@
--- The container: blocks of 512 bytes with their check, the payload, packing and unpacking. Document 01, "The file".
+-- The container: blocks of 512 bytes with their checksum, which document 01 calls the check, the payload, packing and unpacking. Document
+-- 01, "The file".
 use mathlib.Core.List.{List, [], _∷_, _++_}
 use mathlib.Core.Bool.{Bool, true, false, _&&_}
 use Prim.Native.Nat.{ℕ, zero, suc, _+_, _*_, _-_, _/_, _%_}
 use lib.ListN.{length, take, drop, replicate}
 use lib.Dec.{leb, eqb}
-use Rattle.rules.specs.Base.{refusal, Tried, found, refused, _>>=_, Check, passed, require, within, isZero, all, wordAt, longAt}
+use Rattle.rules.specs.Base.{refusal, Tried, found, _>>=_, Check, passed, require, within, isZero, all, wordAt, longAt}
 
 ---- "Bytes 0-1: block number from 0. 2-3: used count. 4-507: payload. 508-511: the check"
 
@@ -14,8 +15,8 @@ weighed k [] = 0
 weighed k (b ∷ bytes) = b * k + weighed (suc k) bytes
 
 -- "the check, the sum over bytes i = 0 to 507 of byte × (i + 1)"
-unfoldable pub blockCheck : List ℕ → ℕ
-blockCheck block = weighed 1 (take 508 block)
+unfoldable pub checksum : List ℕ → ℕ
+checksum block = weighed 1 (take 508 block)
 
 -- "Every block but the last uses 504; the last uses 1 to 504"
 unfoldable pub usedRight : Bool → ℕ → Bool
@@ -32,7 +33,7 @@ blockRight last k block =
 -- block k: "block by block 2 then 3"
 unfoldable pub verifyBlock : Bool → ℕ → List ℕ → Check
 verifyBlock last k block = do
-  _ ← require (eqb (longAt block 508) (blockCheck block)) (refusal 2 k 0)
+  _ ← require (eqb (longAt block 508) (checksum block)) (refusal 2 k 0)
   require (blockRight last k block) (refusal 3 k 0)
 
 -- n blocks from number k on
@@ -80,12 +81,12 @@ bytes2 n = (n % 256) ∷ (n / 256 % 256) ∷ []
 abbrev pub bytes4 : ℕ → List ℕ
 bytes4 n = bytes2 n ++ bytes2 (n / 65536)
 
--- a block without its check: number, used count, payload, zeros
+-- a block without its checksum: number, used count, payload, zeros
 unfoldable pub blockBody : ℕ → List ℕ → List ℕ
 blockBody k part = bytes2 k ++ bytes2 (length part) ++ part ++ replicate (504 - length part) 0
 
 unfoldable pub block : ℕ → List ℕ → List ℕ
-block k part = let body = blockBody k part in body ++ bytes4 (blockCheck body)
+block k part = let body = blockBody k part in body ++ bytes4 (checksum body)
 
 -- a payload in n blocks from number k on
 unfoldable pub blocksOf : ℕ → ℕ → List ℕ → List ℕ

@@ -1,11 +1,11 @@
 -- The rules on what is declared: types and weights (5), and arguments in the size bound (6). Document 01, "The file" and "Weighted size".
 use mathlib.Core.List.{List, _∷_}
-use mathlib.Core.Bool.{Bool, true, false, _&&_, _||_}
+use mathlib.Core.Bool.{Bool, _&&_, _||_}
 use Prim.Native.Nat.{ℕ, _-_}
 use lib.ListN.{length, getD}
 use lib.Dec.{ltb}
 use Rattle.rules.specs.declared.records.Alternative.{Alternative}
-use Rattle.rules.specs.Base.{refusal, Tried, found, refused, _>>=_, Check, passed, require, each, isZero, all, any}
+use Rattle.rules.specs.Base.{refusal, _>>=_, Check, require, each, isZero, all, any}
 use Rattle.rules.specs.Program.{Constructor, Function, Program}
 
 ---- 5: "type not below T, or weight wrong. (0, constructor) or (1, function)"

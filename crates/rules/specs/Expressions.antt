@@ -1,12 +1,11 @@
 -- Expressions and substitution, in which 001 describes what stands on a stack. 001, sections 2 and 5.
 use mathlib.Core.List.{List, [], _∷_}
-use mathlib.Core.Bool.{Bool, true, false}
 use Prim.Native.Nat.{ℕ, zero, suc}
 use lib.Dec.{eqb}
 use Rattle.rules.specs.Base.{if_then_else_}
 use Rattle.rules.specs.Tree.{Tree, Trees, node, nil, cons}
 
--- "e ::= x | c(e, .., e) | f(e, .., e)": a variable, or a constructor or a function over expressions
+-- e ::= x | c(e, .., e) | f(e, .., e): a variable, or a constructor or a function over expressions
 pub data Symbol : Type 0 where
   variable built called : ℕ → Symbol
 

@@ -1,7 +1,7 @@
 -- Size forms and the cover test. Document 01, "Size forms" and "Cover".
 use mathlib.Core.List.{List, [], _∷_, _++_, map}
 use mathlib.Core.Option.{Option, none, some}
-use mathlib.Core.Bool.{Bool, true, false, _&&_}
+use mathlib.Core.Bool.{Bool, true, _&&_}
 use Prim.Native.Nat.{ℕ, zero, suc, _+_, _*_}
 use lib.ListN.{length, replicate, set}
 use lib.Dec.{leb}
@@ -36,8 +36,8 @@ unfoldable pub flatMap : {A B : Type 0} → (A → List B) → List A → List B
 flatMap f [] = []
 flatMap f (x ∷ xs) = f x ++ flatMap f xs
 
--- "Substituting into an alternative takes every choice of one alternative from each argument whose coefficient is not 0; nothing is dropped as a duplicate":
--- an alternative of these coefficients and this constant, and the arguments' forms
+-- "Substituting into an alternative takes every choice of one alternative from each argument whose coefficient is not 0; nothing is dropped
+-- as a duplicate": an alternative of these coefficients and this constant, and the arguments' forms
 unfoldable pub substituted : List ℕ → ℕ → List Form → Form
 substituted [] k forms = constantOnly k ∷ []
 substituted (m ∷ ms) k [] = constantOnly k ∷ []
@@ -71,7 +71,8 @@ module _ (s : Program) where
     formsOf nil = []
     formsOf (cons t ts) = formOf t ∷ formsOf ts
 
----- "every alternative of every stack entry must be matched by one alternative of the function's own bound .. no coefficient and no constant exceeds it"
+---- "every alternative of every stack entry must be matched by one alternative of the function's own bound .. no coefficient and no
+---- constant exceeds it"
 
 unfoldable pub atMost : List ℕ → List ℕ → Bool
 atMost [] ys = true

@@ -34,9 +34,15 @@ module _ (s : Program) (f : Function) (T : ℕ → List ℕ) where
   -- return n: T_i = T · t_0. stop: true
   abbrev pub wt : ℕ → Instruction → Type 0
   wt i (Load k) = (i < last) × (t : ℕ) × (slot k (T i) ≡ some t) × (T (suc i) ≡ push (T i) t)
-  wt i (Build c) = (i < last) × (k : Constructor) × (constructor s c ≡ some k) × (rest : List ℕ) × (T i ≡ rest ++ k .arguments) × (T (suc i) ≡ push rest (k .result))
-  wt i (Call g) = (i < last) × (k : Function) × (function s g ≡ some k) × (rest : List ℕ) × (T i ≡ rest ++ k .parameters) × (T (suc i) ≡ push rest (k .result))
-  wt i (Branch c j) = (i < last) × (k : Constructor) × (constructor s c ≡ some k) × (rest : List ℕ) × (T i ≡ push rest (k .result)) × (T (suc i) ≡ rest ++ k .arguments) × (T j ≡ T i)
+  wt i (Build c) =
+      (i < last) × (k : Constructor) × (constructor s c ≡ some k) × (rest : List ℕ) × (T i ≡ rest ++ k .arguments)
+      × (T (suc i) ≡ push rest (k .result))
+  wt i (Call g) =
+      (i < last) × (k : Function) × (function s g ≡ some k) × (rest : List ℕ) × (T i ≡ rest ++ k .parameters)
+      × (T (suc i) ≡ push rest (k .result))
+  wt i (Branch c j) =
+      (i < last) × (k : Constructor) × (constructor s c ≡ some k) × (rest : List ℕ) × (T i ≡ push rest (k .result))
+      × (T (suc i) ≡ rest ++ k .arguments) × (T j ≡ T i)
   wt i Return = (rest : List ℕ) × (T i ≡ push rest (f .result))
   wt i Stop = Unit {0}
 
@@ -54,22 +60,31 @@ module _ (s : Program) (n : ℕ) (f : Function) (S : ℕ → Option Shape) where
   made-next i x rest es symbol =
       (x .stack ≡ rest ++ es) × (length (formOf s (made symbol es)) ≤ 16) × (S (suc i) ≡ some (withStack x (push rest (made symbol es))))
 
-  -- branch c j on p, with n arguments: "if p is a variable x then let σ' = [c(..)/x] in σ_j = σ_i, E_j = E_i, σ_{i+1} = σ' ∘ σ_i and E_{i+1} = σ'(E) · ..",
-  -- with at most 16 variables; "else if p = c(e_1, .., e_n)" the next instruction; "else if p = d(..) with d ≠ c" instruction j
+  -- branch c j on p, with n arguments: if p is a variable x then let σ' = [c(..)/x] in σ_j = σ_i, E_j = E_i, σ_{i+1} = σ' ∘ σ_i and E_{i+1}
+  -- = σ'(E) · .., with at most 16 variables; else if p = c(e_1, .., e_n) the next instruction; else if p = d(..) with d ≠ c instruction j
   abbrev pub branch-on : ℕ → Shape → List Expression → ℕ → ℕ → ℕ → Expression → Type 0
-  branch-on i x rest c args j (node (variable v) ts) = (x .count + args ≤ 16) × (S (suc i) ≡ some (splitVariable x rest v c args)) × (S j ≡ some x)
-  branch-on i x rest c args j (node (built d) ts) = (d ≡ c → S (suc i) ≡ some (withStack x (rest ++ toList ts))) × ((d ≡ c → ⊥) → S j ≡ some x)
+  branch-on i x rest c args j (node (variable v) ts) =
+      (x .count + args ≤ 16) × (S (suc i) ≡ some (splitVariable x rest v c args)) × (S j ≡ some x)
+  branch-on i x rest c args j (node (built d) ts) =
+      (d ≡ c → S (suc i) ≡ some (withStack x (rest ++ toList ts))) × ((d ≡ c → ⊥) → S j ≡ some x)
   branch-on i x rest c args j (node (called g) ts) = ⊥
 
   abbrev pub wsh : ℕ → Instruction → Shape → Type 0
   wsh i (Load k) x = (e : Expression) × (slot k (x .stack) ≡ some e) × (S (suc i) ≡ some (withStack x (push (x .stack) e)))
-  wsh i (Build c) x = (k : Constructor) × (constructor s c ≡ some k) × (rest es : List Expression) × (length es ≡ length (k .arguments)) × made-next i x rest es (built c)
-  wsh i (Call g) x = (k : Function) × (function s g ≡ some k) × (rest es : List Expression) × (length es ≡ length (k .parameters)) × made-next i x rest es (called g)
-  wsh i (Branch c j) x = (k : Constructor) × (constructor s c ≡ some k) × (rest : List Expression) × (p : Expression) × (x .stack ≡ push rest p) × branch-on i x rest c (length (k .arguments)) j p
+  wsh i (Build c) x =
+      (k : Constructor) × (constructor s c ≡ some k) × (rest es : List Expression) × (length es ≡ length (k .arguments))
+      × made-next i x rest es (built c)
+  wsh i (Call g) x =
+      (k : Function) × (function s g ≡ some k) × (rest es : List Expression) × (length es ≡ length (k .parameters))
+      × made-next i x rest es (called g)
+  wsh i (Branch c j) x =
+      (k : Constructor) × (constructor s c ≡ some k) × (rest : List Expression) × (p : Expression) × (x .stack ≡ push rest p)
+      × branch-on i x rest c (length (k .arguments)) j p
   wsh i Return x = Unit {0}
   wsh i Stop x = Unit {0}
 
-  -- Definition 2, and Definition 3 with document 01's cover test: at each visited instruction the own bound at the parameters' shapes covers every entry
+  -- Definition 2, and Definition 3 with document 01's cover test: at each visited instruction the own bound at the parameters' shapes
+  -- covers every entry
   pub record WellSized : Type 0 where
     pub start : S 1 ≡ some (startShape f)
     pub instructions : (i : ℕ) (ins : Instruction) → slot i (f .code) ≡ some ins → (x : Shape) → S i ≡ some x → wsh i ins x

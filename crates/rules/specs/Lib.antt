@@ -3,7 +3,7 @@ pub mod Lists
 pub mod Container
 pub mod Program
 pub mod Records
-pub mod Opened
+pub mod There
 pub mod Declarations
 pub mod Tree
 pub mod Stacks
@@ -14,6 +14,7 @@ pub mod Expressions
 pub mod Forms
 pub mod Shapes
 pub mod Check
+pub mod Established
 pub mod Machine
 pub mod Values
 pub mod Prefix

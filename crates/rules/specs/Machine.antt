@@ -1,14 +1,13 @@
 -- The machine. Document 01, "The machine"; 001, Table 1. It has no limits.
 use mathlib.Core.List.{List, [], _∷_, _++_}
 use mathlib.Core.Option.{Option, none, some}
-use mathlib.Core.Bool.{Bool, true, false}
 use Prim.Native.Nat.{ℕ, zero, suc}
 use lib.ListN.{length}
 use lib.Dec.{eqb}
 use Rattle.rules.specs.declared.records.Instruction.{Instruction}
 use Rattle.rules.specs.declared.records.Instruction.the-variants.{Load, Build, Call, Branch, Return, Stop}
 use Rattle.rules.specs.Base.{if_then_else_}
-use Rattle.rules.specs.Program.{Constructor, Function, Program, constructor, function}
+use Rattle.rules.specs.Program.{Program, constructor, function}
 use Rattle.rules.specs.Tree.{Tree, made, label, arguments}
 use Rattle.rules.specs.Stacks.{slot, split, push}
 
@@ -37,11 +36,11 @@ abbrev pub start : ℕ → List Value → State
 start f values = record { function = f; instruction = 1; stack = values } ∷ []
 
 -- the same function at instruction i with this stack
-abbrev pub at : ℕ → Frame → List Value → Frame
-at i fr stack = record { function = fr .function; instruction = i; stack = stack }
+abbrev pub frameAt : ℕ → Frame → List Value → Frame
+frameAt i fr stack = record { function = fr .function; instruction = i; stack = stack }
 
 abbrev pub onward : Frame → List Value → Frame
-onward fr stack = at (suc (fr .instruction)) fr stack
+onward fr stack = frameAt (suc (fr .instruction)) fr stack
 
 abbrev pub top : List Value → Option Value
 top stack = split 1 stack >>= (λ parts. slot 1 (parts .1))
@@ -85,7 +84,7 @@ module _ (s : Program) where
   execute (Branch c b) fr others = do
     parts ← split 1 (fr .stack)
     v ← slot 1 (parts .1)
-    some ((if eqb (label v) c then onward fr (parts .0 ++ arguments v) else at b fr (fr .stack)) ∷ others)
+    some ((if eqb (label v) c then onward fr (parts .0 ++ arguments v) else frameAt b fr (fr .stack)) ∷ others)
   execute Return fr [] = none
   execute Return fr (waiting ∷ others) = do
     v ← top (fr .stack)

@@ -6,7 +6,7 @@ use lib.ListN.{length, take, drop, replicate}
 use Rattle.rules.specs.Base.{Tried, found, refused, _>>=_}
 use Rattle.rules.specs.Container.{pack, unpack}
 use Rattle.rules.specs.Check.{checked}
-use Rattle.rules.specs.Run.{Lent, Tables, usable, Ending, finished, aborted, refusedWith, loaded, run}
+use Rattle.rules.specs.Run.{Lent, usable, Ending, finished, aborted, refusedWith, loaded, run}
 
 ---- The output: "Success writes the output's front and keeps its rest"; "Refusals and "gave up" leave the output"
 
@@ -59,6 +59,3 @@ module _ (file : List ℕ) (entry : ℕ) (bytes : List ℕ) (budget : ℕ) (lent
 
   abbrev pub stackAfter : List ℕ → List ℕ
   stackAfter stack = tableAfter (begun file entry bytes lent) 0 (usable lent .stack) stack
-
-  abbrev pub framesAfter : {F : Type 0} → F → List F → List F
-  framesAfter blank frames = tableAfter (begun file entry bytes lent) blank (usable lent .frames) frames

@@ -1,7 +1,7 @@
 -- Arguments and results in prefix order, one constructor number a byte, and the argument check, 12. Document 01, "The run".
 use mathlib.Core.List.{List, [], _∷_, _++_}
 use mathlib.Core.Option.{Option, none, some}
-use mathlib.Core.Bool.{Bool, true, false, _&&_}
+use mathlib.Core.Bool.{_&&_}
 use Prim.Native.Nat.{ℕ, suc}
 use lib.ListN.{length, take, drop}
 use lib.Dec.{leb, eqb}
@@ -10,7 +10,8 @@ use Rattle.rules.specs.Program.{Constructor, Function, Program, construc
 use Rattle.rules.specs.Tree.{Trees, node, nil, cons, made}
 use Rattle.rules.specs.Machine.{Value}
 
----- 12: "first, arguments too long (65,535, 0); then unknown constructor, wrong type, cut short, left over, over 256 pending after that byte. (offset, 0)"
+---- 12: "first, arguments too long (65,535, 0); then unknown constructor, wrong type, cut short, left over, over 256 pending after that
+---- byte. (offset, 0)"
 
 -- a byte at an offset, where values of these types are still to be read: the types that are still to be read after it.
 -- "Values still to be read, remaining arguments included, never exceed 256"

@@ -14,11 +14,12 @@ use Rattle.rules.specs.Check.{checked}
 use Rattle.rules.specs.Machine.{Value, Frame, State, start, current, step, after, resultOf}
 use Rattle.rules.specs.Values.{size, sizes, Has, Typed, boundAt}
 use Rattle.rules.specs.Prefix.{values, written}
-use Rattle.rules.specs.Run.{Lent, Tables, usable, Ending, finished, aborted, refusedWith, Outcome, answer, heights, cellsTaken, refusalAt, loaded, run}
+use Rattle.rules.specs.Run.{Lent, Tables, usable, Ending, finished, aborted, refusedWith, Outcome, answer, heights, cellsTaken}
+use Rattle.rules.specs.Run.{refusalAt, loaded, run}
 
 ---- A state
 
--- the stack's types that the check worked out at instruction i of function n; their number is "the height worked out at an instruction"
+-- the stack's types that the check worked out at instruction i of function n; their number is "The height worked out at an instruction"
 abbrev pub typesAt : Program → Option Function → ℕ → ℕ → Option (List ℕ)
 typesAt s none n i = none
 typesAt s (some f) n i = arrived (typesOf s n f) i
@@ -71,14 +72,18 @@ pub data NoRoom (m : Tables) (st : State) (cells : ℕ) : ℕ → Type 0 where
 
 -- a run of function f that begins at a state with so many cells in use, under a step budget, tables and room in the output
 module _ (s : Program) (f : Function) (limit : ℕ) (m : Tables) (budget room : ℕ) (begin : State) (cells : ℕ) where
-  -- how it ends after so many steps at a state: with the result, which is of the function's result type and within the limit, or with 13 where the output has no room for it;
-  -- given up; or, where there is a next state, with 14 if the budget is spent, else with 17, 16 or 15 if the tables have no room for that state
+  -- how it ends after so many steps at a state: with the result, which is of the function's result type and within the limit, or with 13
+  -- where the output has no room for it; given up; or, where there is a next state, with 14 if the budget is spent, else with 17, 16 or 15
+  -- if the tables have no room for that state
   pub data Ends (steps : ℕ) (st : State) : Ending (List ℕ) → Type 0 where
-    with-result : (v : Value) → resultOf s st ≡ some v → Has s v (f .result) → size s v ≤ limit → length (written v) ≤ room → Ends steps st (finished (written v))
-    undelivered : (v : Value) → resultOf s st ≡ some v → Has s v (f .result) → size s v ≤ limit → room < length (written v) → Ends steps st (refusedWith (refusal 13 (length (written v)) 0))
+    with-result : (v : Value) → resultOf s st ≡ some v → Has s v (f .result) → size s v ≤ limit → length (written v) ≤ room
+        → Ends steps st (finished (written v))
+    undelivered : (v : Value) → resultOf s st ≡ some v → Has s v (f .result) → size s v ≤ limit → room < length (written v)
+        → Ends steps st (refusedWith (refusal 13 (length (written v)) 0))
     stopped : st ≡ [] → Ends steps st aborted
     spent : steps ≡ budget → (next : State) → step s st ≡ some next → Ends steps st (refusedWith (refusalAt 14 st))
-    short : steps < budget → (next : State) → step s st ≡ some next → (number : ℕ) → NoRoom m next (cells + builds s (suc steps) begin) number → Ends steps st (refusedWith (refusalAt number st))
+    short : steps < budget → (next : State) → step s st ≡ some next → (number : ℕ)
+        → NoRoom m next (cells + builds s (suc steps) begin) number → Ends steps st (refusedWith (refusalAt number st))
 
   -- it goes through the machine's states: as many as its steps, within the budget, with room for each, and it ends at the last
   pub record Ran (a : Outcome) : Type 0 where
@@ -88,22 +93,27 @@ module _ (s : Program) (f : Function) (limit : ℕ) (m : Tables) (budget room : 
     pub fitted : (k : ℕ) (st : State) → k ≤ a .steps → after s k begin ≡ some st → Room m st (cells + builds s k begin)
     pub ending : Ends (a .steps) last (a .ending)
 
--- what a run answers: it is refused before its start (11, 12, or 17, 16, 15 at the entry), or its arguments are of the declared types and it ran from them
+-- what a run answers: it is refused before its start (11, 12, or 17, 16, 15 at the entry), or its arguments are of the declared types and
+-- it ran from them
 pub data Answers (s : Program) (entry : ℕ) (arguments : List ℕ) (budget : ℕ) (lent : Lent) (a : Outcome) : Type 0 where
-  not-begun : (r : Refusal) → loaded s (usable lent) entry arguments ≡ refused r → a ≡ answer (refusedWith r) 0 → Answers s entry arguments budget lent a
+  not-begun : (r : Refusal) → loaded s (usable lent) entry arguments ≡ refused r → a ≡ answer (refusedWith r) 0
+      → Answers s entry arguments budget lent a
   began : (f : Function) → function s entry ≡ some f → Typed s (values s arguments) (f .parameters)
-      → Ran s f (boundAt (f .bound) (sizes s (values s arguments))) (usable lent) budget (lent .output) (start entry (values s arguments)) (length arguments) a
+      → Ran s f (boundAt (f .bound) (sizes s (values s arguments))) (usable lent) budget (lent .output) (start entry (values s arguments))
+      (length arguments) a
       → Answers s entry arguments budget lent a
 
 ---- Both together
 
 -- of a file that holds program s
 pub record Promised (file : List ℕ) (s : Program) : Type 0 where
-  -- every state after any number of steps, from any entry function and values of its parameters' types; no value exceeds the entry's size bound
+  -- every state after any number of steps, from any entry function and values of its parameters' types; no value exceeds the entry's size
+  -- bound
   pub states : (n : ℕ) (f : Function) → function s n ≡ some f → (us : List Value) → Typed s us (f .parameters)
       → (k : ℕ) (st : State) → after s k (start n us) ≡ some st → Safe s (boundAt (f .bound) (sizes s us)) st
   -- every run, with any entry number, argument bytes, budget and lent lengths
-  pub runs : (entry : ℕ) (arguments : List ℕ) (budget : ℕ) (lent : Lent) → Answers s entry arguments budget lent (run file entry arguments budget lent)
+  pub runs : (entry : ℕ) (arguments : List ℕ) (budget : ℕ) (lent : Lent)
+      → Answers s entry arguments budget lent (run file entry arguments budget lent)
 
 abbrev pub TallyPromise : Type 0
 TallyPromise = (file : List ℕ) (s : Program) → checked file ≡ found s → Promised file s

@@ -15,7 +15,9 @@ use Rattle.rules.specs.declared.records.InstructionRecord.{InstructionRe
 use Rattle.rules.specs.declared.records.Alternative.{Alternative}
 use Rattle.rules.specs.declared.records.Instruction.{Instruction}
 use Rattle.rules.specs.declared.records.Instruction.the-variants.{Load, Build, Call, Branch, Return, Stop}
-use Rattle.rules.specs.Base.{refusal, Tried, found, refused, _>>=_, Check, passed, require, if_then_else_, numbered, forEach, within, isZero, all, byteAt, wordAt}
+use Rattle.rules.specs.Base.{refusal, Tried, found, _>>=_, Check, require, if_then_else_, numbered, forEach, within, isZero, all}
+use Rattle.rules.specs.Base.{byteAt, wordAt}
+use Rattle.rules.specs.Container.{payload}
 use Rattle.rules.specs.Program.{Constructor, Function, Program}
 
 ---- The bytes of a record at an offset of the payload
@@ -23,23 +25,33 @@ use Rattle.rules.specs.Program.{Constructor, Function, Program}
 abbrev pub fourAt : List ℕ → ℕ → List ℕ
 fourAt bytes at = byteAt bytes at ∷ byteAt bytes (at + 1) ∷ byteAt bytes (at + 2) ∷ byteAt bytes (at + 3) ∷ []
 
--- "Header, 4 bytes: edition 1; types T; constructors C; functions F"
+-- "Header, 4 bytes: edition 1; types T, 1-32; constructors C, 1-64; functions F, 1-32"
 abbrev pub headerAt : List ℕ → ℕ → Header
-headerAt bytes at = record { edition = byteAt bytes at; types = byteAt bytes (at + 1); constructors = byteAt bytes (at + 2); functions = byteAt bytes (at + 3) }
+headerAt bytes at = record {
+  edition = byteAt bytes at;
+  types = byteAt bytes (at + 1);
+  constructors = byteAt bytes (at + 2);
+  functions = byteAt bytes (at + 3);
+}
 
--- "result type, arity, four argument types"
+-- "result type, arity 0-4, four argument types"
 abbrev pub declarationAt : List ℕ → ℕ → Declaration
 declarationAt bytes at = record { result = byteAt bytes at; arity = byteAt bytes (at + 1); types = fourAt bytes (at + 2) }
 
--- "Constructor, 8 bytes: result type, arity, four argument types, weight, zero"
+-- "Constructor, 8 bytes: result type, arity 0-4, four argument types, weight, zero"
 abbrev pub constructorAt : List ℕ → ℕ → ConstructorRecord
 constructorAt bytes at = record { declaration = declarationAt bytes at; weight = byteAt bytes (at + 6); reserved = byteAt bytes (at + 7) }
 
--- "Function head, 10 bytes: result type, arity, four argument types, alternatives, zero, instruction count L (two bytes)"
+-- "Function head, 10 bytes: result type, arity 0-4, four argument types, alternatives 1-4, zero, instruction count L 1-256 (two bytes)"
 abbrev pub headAt : List ℕ → ℕ → HeadRecord
-headAt bytes at = record { declaration = declarationAt bytes at; alternatives = byteAt bytes (at + 6); reserved = byteAt bytes (at + 7); instructions = wordAt bytes (at + 8) }
+headAt bytes at = record {
+  declaration = declarationAt bytes at;
+  alternatives = byteAt bytes (at + 6);
+  reserved = byteAt bytes (at + 7);
+  instructions = wordAt bytes (at + 8);
+}
 
--- "each alternative, 6 bytes: four coefficients, a constant"
+-- "each alternative, 6 bytes: four coefficients 0-15, a constant 0-65,535"
 abbrev pub alternativeAt : List ℕ → ℕ → AlternativeRecord
 alternativeAt bytes at = record { coefficients = fourAt bytes at; constant = wordAt bytes (at + 4) }
 
@@ -69,8 +81,8 @@ headRight h = declarationRight (h .declaration) && within 1 4 (h .alternatives) 
 unfoldable pub alternativeRight : ℕ → AlternativeRecord → Bool
 alternativeRight n r = pastZero n (r .coefficients) && all (λ c. leb c 15) (r .coefficients)
 
--- "Operations: 1 load slot a; 2 build constructor a; 3 call function a; 4 branch on constructor a, else go to instruction b; 5 return; 6 stop";
--- "zero .. as are unused operands"
+-- "Operations: 1 load slot a (1 is the lowest); 2 build constructor a; 3 call function a; 4 branch on constructor a, else go to instruction
+-- b; 5 return; 6 stop"; "zero .. as are unused operands"
 unfoldable pub operation : InstructionRecord → Option Instruction
 operation r =
     if eqb (r .operation) 1 && isZero (r .b) then some (Load (r .a)) else
@@ -113,7 +125,7 @@ unfoldable pub headOffset : List ℕ → ℕ → ℕ
 headOffset bytes zero = constructorOffset (byteAt bytes 2)
 headOffset bytes (suc g) = behind bytes (headOffset bytes g)
 
----- 4: "cut short or with a field outside its range, or bytes left over. (payload offset of that record or first extra byte, 0)"
+---- 4: "cut short or with a field outside its range above .. or bytes left over. (payload offset of that record or first extra byte, 0)"
 
 -- a record of so many bytes at an offset: all there, and its fields in range
 unfoldable pub recordRight : ℕ → List ℕ → ℕ → Bool → Check
@@ -124,11 +136,13 @@ constructorCheck bytes c = recordRight 8 bytes (constructorOffset c) (constructo
 
 -- alternative k of the function whose head stands at an offset
 abbrev pub alternativeCheck : List ℕ → ℕ → ℕ → Check
-alternativeCheck bytes at k = recordRight 6 bytes (alternativeOffset at k) (alternativeRight (byteAt bytes (at + 1)) (alternativeAt bytes (alternativeOffset at k)))
+alternativeCheck bytes at k =
+    recordRight 6 bytes (alternativeOffset at k) (alternativeRight (byteAt bytes (at + 1)) (alternativeAt bytes (alternativeOffset at k)))
 
 -- instruction i, from 0, of code at an offset
 abbrev pub instructionCheck : List ℕ → ℕ → ℕ → Check
-instructionCheck bytes base i = recordRight 4 bytes (instructionOffset base i) (isSome (operation (instructionAt bytes (instructionOffset base i))))
+instructionCheck bytes base i =
+    recordRight 4 bytes (instructionOffset base i) (isSome (operation (instructionAt bytes (instructionOffset base i))))
 
 -- a function at an offset: its head, its alternatives, its instructions
 unfoldable pub functionRight : List ℕ → ℕ → Check
@@ -184,6 +198,13 @@ programOf bytes = record {
   constructors = numbered (λ c. constructorOf (constructorAt bytes (constructorOffset c))) 0 (byteAt bytes 2);
   functions = numbered (λ g. functionOf bytes (headOffset bytes g)) 0 (byteAt bytes 3);
 }
+
+-- the program that a file's payload says, and its function g
+abbrev pub programIn : List ℕ → Program
+programIn file = programOf (payload file)
+
+abbrev pub functionIn : List ℕ → ℕ → Function
+functionIn file g = functionOf (payload file) (headOffset (payload file) g)
 
 -- the program that a payload says, where all its records are right
 unfoldable pub decode : List ℕ → Tried Program

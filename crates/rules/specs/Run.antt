@@ -1,15 +1,14 @@
 -- The run under a step budget and tables of given lengths. Document 01, "The run" and "Numbers".
 use mathlib.Core.List.{List, [], _∷_}
 use mathlib.Core.Option.{Option, none, some}
-use mathlib.Core.Bool.{Bool, true, false}
 use Prim.Native.Nat.{ℕ, zero, suc, _+_, _/_, min}
 use lib.ListN.{length}
 use lib.Dec.{leb}
 use Rattle.rules.specs.declared.records.Instruction.{Instruction}
 use Rattle.rules.specs.declared.records.Instruction.the-variants.{Load, Build, Call, Branch, Return, Stop}
 use Rattle.rules.specs.Base.{Refusal, refusal, Tried, found, refused, _>>=_, Check, require, orRefuse, if_then_else_}
-use Rattle.rules.specs.Program.{Function, Program, function}
-use Rattle.rules.specs.Machine.{Value, Frame, State, start, current, step, resultOf}
+use Rattle.rules.specs.Program.{Program, function}
+use Rattle.rules.specs.Machine.{Value, State, start, current, step, resultOf}
 use Rattle.rules.specs.Prefix.{argumentsRight, values, written}
 use Rattle.rules.specs.Check.{checked}
 
@@ -52,7 +51,8 @@ Outcome = Answer (List ℕ)
 abbrev pub answer : {R : Type 0} → Ending R → ℕ → Answer R
 answer e n = record { ending = e; steps = n }
 
----- "Before each step: a return in the only frame is the figure, no step; the end after stop is "gave up"; then budget; then frames, stack, cells"
+---- "Before each step: a return in the only frame is the figure, no step; the end after stop is "gave up"; then budget; then frames, stack,
+---- cells"
 
 -- "16: stack, all heights added"
 unfoldable pub heights : State → ℕ

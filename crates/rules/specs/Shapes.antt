@@ -1,13 +1,13 @@
 -- The shape walk, with the cover test, 10, and the limits on variables and alternatives, 9. Document 01, "Shape"; 001, Table 3.
 use mathlib.Core.List.{List, [], _∷_, _++_, map}
-use mathlib.Core.Bool.{Bool, true, false}
+use mathlib.Core.Bool.{Bool}
 use Prim.Native.Nat.{ℕ, suc, _+_}
 use lib.ListN.{length}
 use lib.Dec.{leb, eqb}
 use Rattle.rules.specs.declared.records.Instruction.{Instruction}
 use Rattle.rules.specs.declared.records.Instruction.the-variants.{Load, Build, Call, Branch, Return, Stop}
 use Rattle.rules.specs.Base.{refusal, Tried, found, refused, _>>=_, Check, require, orRefuse, if_then_else_, each, all}
-use Rattle.rules.specs.Program.{Constructor, Function, Program, arity, constructor, function}
+use Rattle.rules.specs.Program.{Function, Program, arity, constructor, function}
 use Rattle.rules.specs.Tree.{node, toList, made}
 use Rattle.rules.specs.Stacks.{slot, split, push}
 use Rattle.rules.specs.Walk.{Arrow, walk, visited}
@@ -33,7 +33,8 @@ splitVariable sh rest k c args =
 
 -- function number n. (What 7 and 8 have refused does not come up here: it is refused again by the same number)
 module _ (s : Program) (n : ℕ) (f : Function) where
-  -- "At each visited instruction, every alternative of every stack entry" is covered by "the function's own bound at its parameters' current shapes"
+  -- "At each visited instruction, every alternative of every stack entry" is covered by "the function's own bound at its parameters'
+  -- current shapes"
   unfoldable pub coveredAt : Shape → Bool
   coveredAt sh = all (λ e. covers (intoBound (f .bound) (map (formOf s) (sh .parameters))) (formOf s e)) (sh .stack)
 
@@ -45,8 +46,8 @@ module _ (s : Program) (n : ℕ) (f : Function) where
     _ ← require (leb (length (formOf s e)) 16) (refusal 9 n i)
     found ((suc i, withStack sh (push (parts .0) e)) ∷ [])
 
-  -- a branch on constructor c, else b, with so many arguments: both sides where the top is a variable, "Variables on one path .. are at most 16";
-  -- "A branch on a known constructor visits only the side that can be taken"
+  -- a branch on constructor c, else b, with so many arguments: both sides where the top is a variable, "Variables on one path .. are at
+  -- most 16"; "A branch on a known constructor visits only the side that can be taken"
   unfoldable pub branchOn : ℕ → Shape → List Expression → ℕ → ℕ → ℕ → List Expression → Tried (List (Arrow Shape))
   branchOn i sh rest c args b [] = refused (refusal 8 n i)
   branchOn i sh rest c args b (node (variable k) ts ∷ more) = do

@@ -1,7 +1,6 @@
 -- Stacks of types, of expressions and of values: lists with the top last.
 use mathlib.Core.List.{List, [], _∷_, _++_}
 use mathlib.Core.Option.{Option, none, some}
-use mathlib.Core.Bool.{Bool, true, false}
 use Prim.Native.Nat.{ℕ, zero, suc, _-_}
 use lib.ListN.{length, take, drop, getElem?}
 use lib.Dec.{leb}

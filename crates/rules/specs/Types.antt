@@ -1,14 +1,13 @@
 -- The type rules, 8. Document 01, "Types"; 001, Table 2.
 use mathlib.Core.List.{List, [], _∷_, _++_}
-use mathlib.Core.Option.{Option, none, some}
 use mathlib.Core.Bool.{Bool, true, false, _&&_}
 use Prim.Native.Nat.{ℕ, suc}
 use lib.ListN.{length}
 use lib.Dec.{leb, eqb}
 use Rattle.rules.specs.declared.records.Instruction.{Instruction}
 use Rattle.rules.specs.declared.records.Instruction.the-variants.{Load, Build, Call, Branch, Return, Stop}
-use Rattle.rules.specs.Base.{Refusal, refusal, Tried, found, refused, _>>=_, Check, require, orRefuse, each}
-use Rattle.rules.specs.Program.{Constructor, Function, Program, constructor, function}
+use Rattle.rules.specs.Base.{Refusal, refusal, Tried, found, _>>=_, Check, require, orRefuse, each}
+use Rattle.rules.specs.Program.{Function, Program, constructor, function}
 use Rattle.rules.specs.Stacks.{slot, split, push}
 use Rattle.rules.specs.Walk.{Arrow, walk, visited}
 
@@ -22,7 +21,7 @@ same (x ∷ xs) (y ∷ ys) = eqb x y && same xs ys
 
 -- function number n
 module _ (s : Program) (n : ℕ) (f : Function) where
-  -- "8: types, height, slot, unknown constructor or function. (function, instruction)"
+  -- "8: types, height, slot, unknown constructor or function. .. (function, instruction)"
   abbrev here : ℕ → Refusal
   here i = refusal 8 n i
 

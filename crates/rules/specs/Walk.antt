@@ -1,7 +1,7 @@
--- One pass over a function's code in file order that carries states along the arrows of its flow graph. The passes for 7, 8 and for 10 and 9 are such walks.
+-- One pass over a function's code in file order that carries states along the arrows of its flow graph. The passes for 7, 8 and for 10 and
+-- 9 are such walks.
 use mathlib.Core.List.{List, [], _∷_, _++_}
 use mathlib.Core.Option.{Option, none, some}
-use mathlib.Core.Bool.{Bool, true, false}
 use Prim.Native.Nat.{ℕ, zero, suc}
 use lib.ListN.{getD}
 use lib.Dec.{eqb}
@@ -41,3 +41,8 @@ module _ {S : Type 0} where
   arrived (refused r) i = none
   arrived (found table) zero = none
   arrived (found table) (suc i) = first (getD table i [])
+
+-- an arrow to an instruction, as the passes of the code name it: number 0 stands for none
+unfoldable pub arrowTo : {S : Type 0} → ℕ → S → List (Arrow S)
+arrowTo zero x = []
+arrowTo (suc j) x = (suc j, x) ∷ []

@@ -10,7 +10,7 @@ pub struct Place {
 pub enum Reason {
     // A damaged file.
     BadLength,
-    BadBlockCheck { block: usize },
+    BadChecksum { block: usize },
     BadBlock { block: usize },
     // The program's author.
     BadRecord { offset: usize },

@@ -22,9 +22,10 @@ use Rattle.rules.specs.Lists.{All, l[], _l∷_}
 use Rattle.rules.proofs.ListLaws.{none-some, some-inj, and-left, split-parts, all-one, all-two}
 use Rattle.rules.proofs.TriedLaws.{after-required}
 use Rattle.rules.proofs.WalkLaws.{Walks, walks, walks-as, walk-all, table-start, table-on}
-use Rattle.rules.proofs.RuleLaws.{Low, type-low, type-among, type-load, type-build, type-call, type-branch, flow-single, flow-load, flow-build, flow-call, flow-branch, flow-among, flow-once, flow-forward, flow-follows}
-use Rattle.rules.proofs.Sound.{Stands, Leads}
-use Rattle.sizing.specs.Chart.{At}
+use Rattle.rules.proofs.RuleLaws.{Low, type-low, type-among, type-load, type-build, type-call, type-branch, flow-single, flow-load}
+use Rattle.rules.proofs.RuleLaws.{flow-build, flow-call, flow-branch, flow-among, flow-once, flow-forward, flow-follows}
+use Rattle.rules.proofs.Sound.{Stands, LeadsOn}
+use Rattle.sizing.specs.Chart.{ReachedAt}
 
 slot-low : {A : Type 0} (a : ℕ) (xs : List A) {x : A} → slot a xs ≡ some x → (1 ≤ a) × (a ≤ length xs)
 slot-low zero xs e = absurd (none-some e)
@@ -36,7 +37,8 @@ slot-low (suc k) xs e = (omega arith, there k xs e)
     there (suc k) (y ∷ xs) e = omega (arith, there k xs e)
 
 -- a split: how high it is, and what is left below
-split-low : {A : Type 0} (n : ℕ) (xs : List A) {p : List A × List A} → split n xs ≡ some p → (n ≤ length xs) × (length (p .0) ≡ length xs - n)
+split-low : {A : Type 0} (n : ℕ) (xs : List A) {p : List A × List A} → split n xs ≡ some p → (n ≤ length xs)
+    × (length (p .0) ≡ length xs - n)
 split-low n xs e =
     let r = split-parts n xs e in
     (r .0, ap (λ (q : _ × _). length (q .0)) (r .1) ∙ length-take-le (length xs - n) xs (omega arith))
@@ -47,10 +49,11 @@ pub record Branches (s : Program) (g : ℕ) (f : Function) (i h c b : ℕ) : Typ
   pub known : constructor s c ≡ some kind
   pub some-stack : 1 ≤ h
   pub ahead : i + 2 ≤ b
-  pub next : At s g f (suc i) (h - 1 + length (kind .arguments)) false
-  pub other : At s g f b h false
+  pub next : ReachedAt s g f (suc i) (h - 1 + length (kind .arguments)) false
+  pub other : ReachedAt s g f b h false
 
-module _ (s : Program) (g : ℕ) (f : Function) {T : List (List Bool)} (eT : flowOf g f ≡ found T) {U : List (List (List ℕ))} (eU : typesOf s g f ≡ found U) (few : arity f ≤ 4) (code : 1 ≤ length (f .code)) where
+module _ (s : Program) (g : ℕ) (f : Function) {T : List (List Bool)} (eT : flowOf g f ≡ found T) {U : List (List (List ℕ))}
+    (eU : typesOf s g f ≡ found U) (few : arity f ≤ 4) (code : 1 ≤ length (f .code)) where
   flow-walks : Walks (flowRule g (length (f .code))) 1 ((1, false) ∷ []) (f .code) T
   unfolding flowOf
   flow-walks = walks (flowRule g (length (f .code))) (f .code) 1 ((1, false) ∷ []) eT
@@ -65,23 +68,31 @@ module _ (s : Program) (g : ℕ) (f : Function) {T : List (List Bool)} (eT : flo
   flow-on : Stands (arrived (flowOf g f)) (flowFrom g (length (f .code))) (f .code)
   flow-on =
       rw eT
-      (table-on (flowFrom g (length (f .code))) (f .code) (flow-follows g (length (f .code)) (flowFrom g (length (f .code))) (flow-among g (length (f .code)))) (flow-forward g (length (f .code))) flow-walks flow-passes
+      (table-on (flowFrom g (length (f .code))) (f .code)
+      (flow-follows g (length (f .code)) (flowFrom g (length (f .code))) (flow-among g (length (f .code))))
+      (flow-forward g (length (f .code))) flow-walks flow-passes
       (flow-once g (length (f .code)) flow-walks))
 
   type-on : Stands (arrived (typesOf s g f)) (typeRule s g f) (f .code)
   type-on =
       rw eU
-      (table-on (typeRule s g f) (f .code) (flow-follows g (length (f .code)) (typeRule s g f) (type-among s g f)) (flow-forward g (length (f .code))) flow-walks type-walks (flow-once g (length (f .code)) flow-walks))
+      (table-on (typeRule s g f) (f .code) (flow-follows g (length (f .code)) (typeRule s g f) (type-among s g f))
+      (flow-forward g (length (f .code))) flow-walks type-walks (flow-once g (length (f .code)) flow-walks))
 
-  pub at-start : At s g f 1 (arity f) false
+  pub at-start : ReachedAt s g f 1 (arity f) false
   at-start = record {
     stack = f .parameters;
-    types = rw eU (table-start (typeRule s g f) (f .code) (flow-follows g (length (f .code)) (typeRule s g f) (type-among s g f)) (flow-forward g (length (f .code))) flow-walks type-walks (flow-once g (length (f .code)) flow-walks) code);
+    types =
+        rw eU (table-start (typeRule s g f) (f .code) (flow-follows g (length (f .code)) (typeRule s g f) (type-among s g f))
+        (flow-forward g (length (f .code))) flow-walks type-walks (flow-once g (length (f .code)) flow-walks) code);
     high = refl;
-    flow = rw eT (table-start (flowFrom g (length (f .code))) (f .code) (flow-follows g (length (f .code)) (flowFrom g (length (f .code))) (flow-among g (length (f .code)))) (flow-forward g (length (f .code))) flow-walks flow-passes (flow-once g (length (f .code)) flow-walks) code);
+    flow =
+        rw eT (table-start (flowFrom g (length (f .code))) (f .code)
+        (flow-follows g (length (f .code)) (flowFrom g (length (f .code))) (flow-among g (length (f .code))))
+        (flow-forward g (length (f .code))) flow-walks flow-passes (flow-once g (length (f .code)) flow-walks) code);
   }
 
-  pub at-low : (i h : ℕ) (p : Bool) → At s g f i h p → h ≤ 16
+  pub at-low : (i h : ℕ) (p : Bool) → ReachedAt s g f i h p → h ≤ 16
   at-low i h p a = rw (a .high) at (one i (rw eU at (a .types)))
     where
       one : (i : ℕ) {ts : List ℕ} → arrived (found U) i ≡ some ts → length ts ≤ 16
@@ -89,27 +100,28 @@ module _ (s : Program) (g : ℕ) (f : Function) {T : List (List Bool)} (eT : flo
       one (suc d) e = walk-all Low (type-low s g f) type-walks (_l∷_ {x = (1, f .parameters)} (le-trans few (omega arith)) l[]) d e
 
   -- an instruction is there, and both rules hold of it
-  at-on : (i h : ℕ) (p : Bool) (a : At s g f i h p) → (ins : Instruction) × (slot i (f .code) ≡ some ins)
-      × ((M : List (Arrow (List ℕ))) × (typeRule s g f i ins (a .stack) ≡ found M) × All (Leads (arrived (typesOf s g f))) M)
-      × ((L : List (Arrow Bool)) × (flowFrom g (length (f .code)) i ins p ≡ found L) × All (Leads (arrived (flowOf g f))) L)
+  at-on : (i h : ℕ) (p : Bool) (a : ReachedAt s g f i h p) → (ins : Instruction) × (slot i (f .code) ≡ some ins)
+      × ((M : List (Arrow (List ℕ))) × (typeRule s g f i ins (a .stack) ≡ found M) × All (LeadsOn (arrived (typesOf s g f))) M)
+      × ((L : List (Arrow Bool)) × (flowFrom g (length (f .code)) i ins p ≡ found L) × All (LeadsOn (arrived (flowOf g f))) L)
   at-on i h p a =
       let t = type-on i (a .stack) (a .types) in
       let l = flow-on i p (a .flow) in
       let same : l .0 ≡ t .0 = some-inj (sym (l .1) ∙ t .1) in
       (t .0, t .1, (t .2, t .3, t .4), (l .2, rw same at (l .3), l .4))
 
-  pub at-there : (i h : ℕ) (p : Bool) → At s g f i h p → (1 ≤ i) × (i ≤ length (f .code))
+  pub at-there : (i h : ℕ) (p : Bool) → ReachedAt s g f i h p → (1 ≤ i) × (i ≤ length (f .code))
   at-there i h p a = let r = at-on i h p a in slot-low i (f .code) (r .1)
 
-  at-as : (i h : ℕ) (p : Bool) (a : At s g f i h p) (ins : Instruction) → slot i (f .code) ≡ some ins
-      → ((M : List (Arrow (List ℕ))) × (typeRule s g f i ins (a .stack) ≡ found M) × All (Leads (arrived (typesOf s g f))) M)
-      × ((L : List (Arrow Bool)) × (flowFrom g (length (f .code)) i ins p ≡ found L) × All (Leads (arrived (flowOf g f))) L)
+  at-as : (i h : ℕ) (p : Bool) (a : ReachedAt s g f i h p) (ins : Instruction) → slot i (f .code) ≡ some ins
+      → ((M : List (Arrow (List ℕ))) × (typeRule s g f i ins (a .stack) ≡ found M) × All (LeadsOn (arrived (typesOf s g f))) M)
+      × ((L : List (Arrow Bool)) × (flowFrom g (length (f .code)) i ins p ≡ found L) × All (LeadsOn (arrived (flowOf g f))) L)
   at-as i h p a ins e =
       let r = at-on i h p a in
       let same : r .0 ≡ ins = some-inj (sym (r .1) ∙ e) in
       ((r .2 .0, rw same at (r .2 .1), r .2 .2), (r .3 .0, rw same at (r .3 .1), r .3 .2))
 
-  pub at-load : (i h : ℕ) (p : Bool) (a : ℕ) → At s g f i h p → slot i (f .code) ≡ some (Load a) → (1 ≤ a) × (a ≤ h) × At s g f (suc i) (h + 1) p
+  pub at-load : (i h : ℕ) (p : Bool) (a : ℕ) → ReachedAt s g f i h p → slot i (f .code) ≡ some (Load a) → (1 ≤ a) × (a ≤ h)
+      × ReachedAt s g f (suc i) (h + 1) p
   at-load i h p a y e =
       let r = at-as i h p y (Load a) e in
       let t = type-load s g f i a (y .stack) (r .0 .1) in
@@ -125,8 +137,9 @@ module _ (s : Program) (g : ℕ) (f : Function) {T : List (List Bool)} (eT : flo
         },
       )
 
-  pub at-build : (i h : ℕ) (p : Bool) (c : ℕ) → At s g f i h p → slot i (f .code) ≡ some (Build c)
-      → (k : Constructor) × (constructor s c ≡ some k) × (length (k .arguments) ≤ h) × At s g f (suc i) (h - length (k .arguments) + 1) true
+  pub at-build : (i h : ℕ) (p : Bool) (c : ℕ) → ReachedAt s g f i h p → slot i (f .code) ≡ some (Build c)
+      → (k : Constructor) × (constructor s c ≡ some k) × (length (k .arguments) ≤ h)
+      × ReachedAt s g f (suc i) (h - length (k .arguments) + 1) true
   at-build i h p c y e =
       let r = at-as i h p y (Build c) e in
       let t = type-build s g f i c (y .stack) (r .0 .1) in
@@ -143,8 +156,8 @@ module _ (s : Program) (g : ℕ) (f : Function) {T : List (List Bool)} (eT : flo
         },
       )
 
-  pub at-call : (i h : ℕ) (p : Bool) (c : ℕ) → At s g f i h p → slot i (f .code) ≡ some (Call c)
-      → (k : Function) × (function s c ≡ some k) × (arity k ≤ h) × At s g f (suc i) (h - arity k + 1) true
+  pub at-call : (i h : ℕ) (p : Bool) (c : ℕ) → ReachedAt s g f i h p → slot i (f .code) ≡ some (Call c)
+      → (k : Function) × (function s c ≡ some k) × (arity k ≤ h) × ReachedAt s g f (suc i) (h - arity k + 1) true
   at-call i h p c y e =
       let r = at-as i h p y (Call c) e in
       let t = type-call s g f i c (y .stack) (r .0 .1) in
@@ -161,14 +174,16 @@ module _ (s : Program) (g : ℕ) (f : Function) {T : List (List Bool)} (eT : flo
         },
       )
 
-  pub at-branch : (i h : ℕ) (p : Bool) (c b : ℕ) → At s g f i h p → slot i (f .code) ≡ some (Branch c b) → (p ≡ false) × Branches s g f i h c b
+  pub at-branch : (i h : ℕ) (p : Bool) (c b : ℕ) → ReachedAt s g f i h p → slot i (f .code) ≡ some (Branch c b) → (p ≡ false)
+      × Branches s g f i h c b
   unfolding flowFrom
   at-branch i h p c b y e =
       let r = at-as i h p y (Branch c b) e in
       let t = type-branch s g f i c b (y .stack) (r .0 .1) in
       let l = flow-branch g (length (f .code)) i c b p (r .1 .1) in
       let d = split-low 1 (y .stack) (t .3) in
-      let w = and-left (within (i + 2) (length (f .code)) b) (not p) (after-required (within (i + 2) (length (f .code)) b && not p) _ _ (r .1 .1) .0) in
+      let w = and-left (within (i + 2) (length (f .code)) b) (not p)
+      (after-required (within (i + 2) (length (f .code)) b && not p) _ _ (r .1 .1) .0) in
       let z = y .high in
       let types = all-two (t .4) (r .0 .2) in
       let flows = all-two (l .1) (r .1 .2) in (
@@ -178,7 +193,12 @@ module _ (s : Program) (g : ℕ) (f : Function) {T : List (List Bool)} (eT : flo
           known = t .1;
           some-stack = omega (arith, d .0);
           ahead = leb-true _ _ (and-left (leb (i + 2) b) (leb b (length (f .code))) w);
-          next = record { stack = t .2 ++ t .0 .arguments; types = types .0; high = length-append (t .2) (t .0 .arguments) ∙ omega (arith, d .1); flow = flows .0 ∙ ap some (l .0) };
+          next = record {
+            stack = t .2 ++ t .0 .arguments;
+            types = types .0;
+            high = length-append (t .2) (t .0 .arguments) ∙ omega (arith, d .1);
+            flow = flows .0 ∙ ap some (l .0);
+          };
           other = record { stack = y .stack; types = types .1; high = y .high; flow = flows .1 ∙ ap some (l .0) };
         },
       )

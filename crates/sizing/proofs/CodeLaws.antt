@@ -15,20 +15,24 @@ use Rattle.rules.specs.declared.records.Alternative.{Alternative}
 use Rattle.rules.specs.Base.{all, any}
 use Rattle.rules.specs.Forms.{Form, atMost, matches, added, constantOnly, variableOnly}
 use Rattle.sizing.specs.declared.splits.Split.{Split}
-use Rattle.sizing.specs.Put.{coefficient, cleared, put, Wide, AllWide, Below, noAlternative}
+use Rattle.sizing.specs.Put.{coefficient, cleared, put, Wide, AllWide, Bounded, noAlternative}
 use Rattle.sizing.specs.Splits.{spanned, splitA, carried, Tidy, Loose, Numbered, Carrying, noSplit}
-use Rattle.sizing.proofs.PutLaws.{cleared-below, alternative-ext, added-wide, added-at, added-constant, constant-wide, constant-at, variable-wide, variable-same, variable-other, variable-constant, put-other-variable, put-at, put-wide, put-constant}
+use Rattle.sizing.proofs.PutLaws.{cleared-below, alternative-ext, added-wide, added-at, added-constant, constant-wide, constant-at}
+use Rattle.sizing.proofs.PutLaws.{variable-wide, variable-same, variable-other, variable-constant, put-other-variable, put-at}
+use Rattle.sizing.proofs.PutLaws.{put-wide, put-constant}
 use Rattle.rules.proofs.ListLaws.{all-at}
 use Rattle.sizing.proofs.ListLaws.{element-at}
 use Rattle.sizing.proofs.SplitLaws.{spanned-wide, spanned-low, spanned-in, spanned-high, numbered-le}
 
 ---- Matching
 
-pub atMost-next : (xs ys : List ℕ) (i : ℕ) → i < length xs → i < length ys → getD xs i 0 ≤ getD ys i 0 → atMost (drop i xs) (drop i ys) ≡ atMost (drop (i + 1) xs) (drop (i + 1) ys)
+pub atMost-next : (xs ys : List ℕ) (i : ℕ) → i < length xs → i < length ys → getD xs i 0 ≤ getD ys i 0
+    → atMost (drop i xs) (drop i ys) ≡ atMost (drop (i + 1) xs) (drop (i + 1) ys)
 unfolding atMost
 atMost-next xs ys i h g l = rw (add-one i, drop-cons xs i 0 h, drop-cons ys i 0 g, le-leb _ _ l)
 
-pub atMost-stop : (xs ys : List ℕ) (i : ℕ) → i < length xs → i < length ys → getD ys i 0 < getD xs i 0 → atMost (drop i xs) (drop i ys) ≡ false
+pub atMost-stop : (xs ys : List ℕ) (i : ℕ) → i < length xs → i < length ys → getD ys i 0 < getD xs i 0
+    → atMost (drop i xs) (drop i ys) ≡ false
 unfolding atMost
 atMost-stop xs ys i h g l = rw (drop-cons xs i 0 h, drop-cons ys i 0 g, lt-leb _ _ l)
 
@@ -68,7 +72,7 @@ wide-get form i w h = all-at i w (element-at noAlternative form i h)
 
 ---- One split
 
-abbrev pub bumped : ℕ → ℕ → Alternative → Alternative
+abbrev bumped : ℕ → ℕ → Alternative → Alternative
 bumped i c r = record { coefficients = set (r .coefficients) i (coefficient r i + c); constant = r .constant }
 
 pub bumped-wide : (i c : ℕ) (r : Alternative) → Wide r → Wide (bumped i c r)
@@ -99,16 +103,22 @@ unfolding constantOnly
 constant-constant w = refl
 
 -- the code's next part, from the whole that is left
-pub spanned-next : (c i n w : ℕ) (r : Alternative) → Wide r → i < 16 → added c (spanned i (suc n) w) r ≡ added c (spanned (suc i) n w) (bumped i c r)
+spanned-next : (c i n w : ℕ) (r : Alternative) → Wide r → i < 16
+    → added c (spanned i (suc n) w) r ≡ added c (spanned (suc i) n w) (bumped i c r)
 spanned-next c i n w r p h =
-    alternative-ext (added c (spanned i (suc n) w) r) (added c (spanned (suc i) n w) (bumped i c r)) (added-wide c (spanned i (suc n) w) r (spanned-wide i (suc n) w) p) (added-wide c (spanned (suc i) n w) (bumped i c r) (spanned-wide (suc i) n w) (bumped-wide i c r p))
-    (λ j. added-at c (spanned i (suc n) w) r j p (spanned-wide i (suc n) w) ∙ go j (eqb j i) refl ∙ sym (added-at c (spanned (suc i) n w) (bumped i c r) j (bumped-wide i c r p) (spanned-wide (suc i) n w)))
-    (added-constant c (spanned i (suc n) w) r ∙ ap (λ (x : ℕ). r .constant + c * x) (more i n) ∙ sym (added-constant c (spanned (suc i) n w) (bumped i c r)))
+    alternative-ext (added c (spanned i (suc n) w) r) (added c (spanned (suc i) n w) (bumped i c r))
+    (added-wide c (spanned i (suc n) w) r (spanned-wide i (suc n) w) p)
+    (added-wide c (spanned (suc i) n w) (bumped i c r) (spanned-wide (suc i) n w) (bumped-wide i c r p))
+    (λ j. added-at c (spanned i (suc n) w) r j p (spanned-wide i (suc n) w) ∙ go j (eqb j i) refl
+    ∙ sym (added-at c (spanned (suc i) n w) (bumped i c r) j (bumped-wide i c r p) (spanned-wide (suc i) n w)))
+    (added-constant c (spanned i (suc n) w) r ∙ ap (λ (x : ℕ). r .constant + c * x) (more i n)
+    ∙ sym (added-constant c (spanned (suc i) n w) (bumped i c r)))
   where
     more : (i n : ℕ) → spanned i (suc n) w .constant ≡ spanned (suc i) n w .constant
     more i n = constant-same i n w
 
-    go : (j : ℕ) (t : Bool) → eqb j i ≡ t → coefficient r j + c * coefficient (spanned i (suc n) w) j ≡ coefficient (bumped i c r) j + c * coefficient (spanned (suc i) n w) j
+    go : (j : ℕ) (t : Bool) → eqb j i ≡ t → coefficient r j + c * coefficient (spanned i (suc n) w) j
+        ≡ coefficient (bumped i c r) j + c * coefficient (spanned (suc i) n w) j
     go j true e = rw (eqb-true j i e, bumped-same i c r p h, first-same i n w h, spanned-low (suc i) n w i (omega arith)) (omega arith)
     go j false e = rw (bumped-other i c r j (eqb-false j i e), first-other i n w j (eqb-false j i e))
 
@@ -119,11 +129,13 @@ spanned-step c first j parts w r p h l =
     let f : first + (j + 1) ≡ suc (first + j) = omega arith in
     rw (e, f) (spanned-next c (first + j) (parts - (j + 1)) w r p (omega arith))
 
-pub spanned-end : (c i n w : ℕ) (r : Alternative) → Wide r → n ≡ 0 → added c (spanned i n w) r ≡ record { coefficients = r .coefficients; constant = r .constant + c * w }
+pub spanned-end : (c i n w : ℕ) (r : Alternative) → Wide r → n ≡ 0
+    → added c (spanned i n w) r ≡ record { coefficients = r .coefficients; constant = r .constant + c * w }
 unfolding spanned
 spanned-end c i n w r p z =
     rw z
-    (alternative-ext (added c (constantOnly w) r) (record { coefficients = r .coefficients; constant = r .constant + c * w }) (added-wide c (constantOnly w) r (constant-wide w) p) p
+    (alternative-ext (added c (constantOnly w) r) (record { coefficients = r .coefficients; constant = r .constant + c * w })
+    (added-wide c (constantOnly w) r (constant-wide w) p) p
     (λ j. added-at c (constantOnly w) r j p (constant-wide w) ∙ rw (constant-at w j) (omega arith))
     (added-constant c (constantOnly w) r ∙ rw (constant-constant w)))
 
@@ -134,12 +146,15 @@ unfolding spanned added variableOnly constantOnly
 spanned-constant k zero w = refl
 spanned-constant k (suc n) w = omega (arith, spanned-constant (suc k) n w)
 
-pub put-tidy : (n k : ℕ) (a : Alternative) (p : Split) → Tidy n k a → p .variable < n → p .first ≡ n → n + p .parts ≤ 16 → p .weight ≤ 255 → Tidy (n + p .parts) (k + 3825) (put (p .variable) (splitA p) a)
+put-tidy : (n k : ℕ) (a : Alternative) (p : Split) → Tidy n k a → p .variable < n → p .first ≡ n → n + p .parts ≤ 16 → p .weight ≤ 255
+    → Tidy (n + p .parts) (k + 3825) (put (p .variable) (splitA p) a)
 put-tidy n k a p h v f l w =
     record {
       wide = put-wide (p .variable) (splitA p) a sw (h .wide);
       most = λ i. rw (put-at (p .variable) (splitA p) a i sw (h .wide)) (go i (ltb i n) refl (ltb i (n + p .parts)) refl);
-      none = λ i g. rw (put-at (p .variable) (splitA p) a i sw (h .wide), spanned-high (p .first) (p .parts) (p .weight) i (omega arith)) (omega (arith, cleared-below (p .variable) a i, h .none i (omega arith)));
+      none =
+          λ i g. rw (put-at (p .variable) (splitA p) a i sw (h .wide), spanned-high (p .first) (p .parts) (p .weight) i (omega arith))
+          (omega (arith, cleared-below (p .variable) a i, h .none i (omega arith)));
       constant = rw (put-constant (p .variable) (splitA p) a) (omega (arith, h .constant, cost));
     }
   where
@@ -149,16 +164,20 @@ put-tidy n k a p h v f l w =
     cost : coefficient a (p .variable) * splitA p .constant ≤ 3825
     cost = rw (spanned-constant (p .first) (p .parts) (p .weight)) (mul-le-mul {n₂ = 15} {m₂ = 255} (h .most (p .variable)) w)
 
-    go : (i : ℕ) (t : Bool) → ltb i n ≡ t → (u : Bool) → ltb i (n + p .parts) ≡ u → coefficient (cleared (p .variable) a) i + coefficient a (p .variable) * coefficient (splitA p) i ≤ 15
-    go i true e u g = rw (spanned-low (p .first) (p .parts) (p .weight) i (omega (arith, ltb-true i n e))) (omega (arith, cleared-below (p .variable) a i, h .most i))
+    go : (i : ℕ) (t : Bool) → ltb i n ≡ t → (u : Bool) → ltb i (n + p .parts) ≡ u
+        → coefficient (cleared (p .variable) a) i + coefficient a (p .variable) * coefficient (splitA p) i ≤ 15
+    go i true e u g =
+        rw (spanned-low (p .first) (p .parts) (p .weight) i (omega (arith, ltb-true i n e)))
+        (omega (arith, cleared-below (p .variable) a i, h .most i))
     go i false e true g =
-        rw (spanned-in (p .first) (p .parts) (p .weight) i (omega arith) (omega (arith, ltb-false i n e)) (omega (arith, ltb-true i (n + p .parts) g)))
+        rw (spanned-in (p .first) (p .parts) (p .weight) i (omega arith) (omega (arith, ltb-false i n e))
+        (omega (arith, ltb-true i (n + p .parts) g)))
         (omega (arith, cleared-below (p .variable) a i, h .none i (ltb-false i n e), h .most (p .variable)))
     go i false e false g =
         rw (spanned-high (p .first) (p .parts) (p .weight) i (omega (arith, ltb-false i (n + p .parts) g)))
         (omega (arith, cleared-below (p .variable) a i, h .most i))
 
-pub unit-tidy : (n k v : ℕ) → v < n → v < 16 → Tidy n k (variableOnly v)
+unit-tidy : (n k v : ℕ) → v < n → v < 16 → Tidy n k (variableOnly v)
 unit-tidy n k v h g =
     record {
       wide = variable-wide v;
@@ -178,22 +197,27 @@ loose-unit n k v h = go (ltb v n) refl
     go true e = inl (unit-tidy n k v (ltb-true v n e) h)
     go false e = inr (v, refl, ltb-false v n e, h)
 
-pub loose-below : (n k j : ℕ) (a : Alternative) → k ≤ j → Loose n k a → Below 15 j a
+pub loose-below : (n k j : ℕ) (a : Alternative) → k ≤ j → Loose n k a → Bounded 15 j a
 loose-below n k j a l (inl t) = (t .wide, t .most, le-trans (t .constant) l)
-loose-below n k j a l (inr x) = let t = unit-tidy (suc (x .0)) k (x .0) (omega arith) (x .3) in rw (x .1) (t .wide, t .most, le-trans (t .constant) l)
+loose-below n k j a l (inr x) =
+    let t = unit-tidy (suc (x .0)) k (x .0) (omega arith) (x .3) in
+    rw (x .1) (t .wide, t .most, le-trans (t .constant) l)
 
-pub put-loose : (n k : ℕ) (a : Alternative) (p : Split) → Loose n k a → p .variable < n → p .first ≡ n → n + p .parts ≤ 16 → p .weight ≤ 255 → Loose (n + p .parts) (k + 3825) (put (p .variable) (splitA p) a)
+pub put-loose : (n k : ℕ) (a : Alternative) (p : Split) → Loose n k a → p .variable < n → p .first ≡ n → n + p .parts ≤ 16 → p .weight ≤ 255
+    → Loose (n + p .parts) (k + 3825) (put (p .variable) (splitA p) a)
 put-loose n k a p (inl t) v f l w = inl (put-tidy n k a p t v f l w)
 put-loose n k a p (inr x) v f l w =
     let u = x .0 in
     let ge = x .2 in
     let e : put (p .variable) (splitA p) a ≡ variableOnly u =
-    ap (put (p .variable) (splitA p)) (x .1) ∙ put-other-variable (p .variable) (splitA p) u (spanned-wide (p .first) (p .parts) (p .weight)) (λ z. omega arith) in
+    ap (put (p .variable) (splitA p)) (x .1)
+    ∙ put-other-variable (p .variable) (splitA p) u (spanned-wide (p .first) (p .parts) (p .weight)) (λ z. omega arith) in
     rw e (loose-unit (n + p .parts) (k + 3825) u (x .3))
 
 ---- All splits, one after the other
 
-pub carried-next : (xs : List Split) (i : ℕ) (r : Alternative) → i < length xs → carried (drop i xs) r ≡ carried (drop (i + 1) xs) (put (getD xs i noSplit .variable) (splitA (getD xs i noSplit)) r)
+carried-next : (xs : List Split) (i : ℕ) (r : Alternative) → i < length xs
+    → carried (drop i xs) r ≡ carried (drop (i + 1) xs) (put (getD xs i noSplit .variable) (splitA (getD xs i noSplit)) r)
 unfolding carried
 carried-next xs i r h = rw (add-one i, drop-cons xs i noSplit h)
 
@@ -201,32 +225,40 @@ pub carried-end : (xs : List Split) (i : ℕ) (r : Alternative) → length xs �
 unfolding carried
 carried-end xs i r h = rw (drop-of-length-le xs h)
 
-pub numbered-next : (xs : List Split) (i m count : ℕ) → i < length xs → Numbered m (drop i xs) count
+numbered-next : (xs : List Split) (i m count : ℕ) → i < length xs → Numbered m (drop i xs) count
     → (getD xs i noSplit .variable < m) × (getD xs i noSplit .first ≡ m) × Numbered (m + getD xs i noSplit .parts) (drop (i + 1) xs) count
 numbered-next xs i m count h n = rw (add-one i) (rw (drop-cons xs i noSplit h) at n)
 
-module _ (a r : Alternative) (t : ℕ) (ps : List Split) (h : Carrying a t ps) (i m : ℕ) (l : i < t) (y : Loose m (65535 + 3825 * i) r) (n : Numbered m (drop i (take t ps)) (h .count)) where
+module _ (a r : Alternative) (t : ℕ) (ps : List Split) (h : Carrying a t ps) (i m : ℕ) (l : i < t) (y : Loose m (65535 + 3825 * i) r)
+    (n : Numbered m (drop i (take t ps)) (h .count)) where
   taken-length : length (take t ps) ≡ t
   taken-length = let a = h .long in let b = h .few in length-take-le t ps (omega arith)
 
-  numbered-here : (getD ps i noSplit .variable < m) × (getD ps i noSplit .first ≡ m) × Numbered (m + getD ps i noSplit .parts) (drop (i + 1) (take t ps)) (h .count)
+  numbered-here : (getD ps i noSplit .variable < m) × (getD ps i noSplit .first ≡ m)
+      × Numbered (m + getD ps i noSplit .parts) (drop (i + 1) (take t ps)) (h .count)
   numbered-here = let e = taken-length in rw (getD-take t ps i noSplit l) at (numbered-next (take t ps) i m (h .count) (omega arith) n)
 
   carrying-fits : m + getD ps i noSplit .parts ≤ 16
   carrying-fits = le-trans (numbered-le (drop (i + 1) (take t ps)) (m + getD ps i noSplit .parts) (h .count) (numbered-here .2)) (h .narrow)
 
-  pub carrying-asks : (getD ps i noSplit .variable < 16) × (getD ps i noSplit .first + getD ps i noSplit .parts ≤ 16) × Below 15 1048576 r
+  pub carrying-asks : (getD ps i noSplit .variable < 16) × (getD ps i noSplit .first + getD ps i noSplit .parts ≤ 16) × Bounded 15 1048576 r
   carrying-asks =
       let f = carrying-fits in
       let q = numbered-here in
       let g = h .few in
       (omega (arith, q .0), omega (arith, q .1), loose-below m (65535 + 3825 * i) 1048576 r (omega arith) y)
 
-  pub carrying-next : (m′ : ℕ) × Loose m′ (65535 + 3825 * (i + 1)) (put (getD ps i noSplit .variable) (splitA (getD ps i noSplit)) r) × Numbered m′ (drop (i + 1) (take t ps)) (h .count)
+  pub carrying-next : (m′ : ℕ) × Loose m′ (65535 + 3825 * (i + 1)) (put (getD ps i noSplit .variable) (splitA (getD ps i noSplit)) r)
+      × Numbered m′ (drop (i + 1) (take t ps)) (h .count)
   carrying-next =
       let q = numbered-here in
-      let e : 65535 + 3825 * (i + 1) ≡ 65535 + 3825 * i + 3825 = omega arith in
-      (m + getD ps i noSplit .parts, rw e (put-loose m (65535 + 3825 * i) r (getD ps i noSplit) y (q .0) (q .1) carrying-fits (h .light i l)), q .2)
+      let e : 65535 + 3825 * (i + 1) ≡ 65535 + 3825 * i + 3825 = omega arith in (
+        m + getD ps i noSplit .parts,
+        rw e (put-loose m (65535 + 3825 * i) r (getD ps i noSplit) y (q .0) (q .1) carrying-fits
+            (h .light i l)),
+        q .2,
+      )
 
-  pub carrying-left : carried (drop i (take t ps)) r ≡ carried (drop (i + 1) (take t ps)) (put (getD ps i noSplit .variable) (splitA (getD ps i noSplit)) r)
+  pub carrying-left : carried (drop i (take t ps)) r
+      ≡ carried (drop (i + 1) (take t ps)) (put (getD ps i noSplit .variable) (splitA (getD ps i noSplit)) r)
   carrying-left = let e = taken-length in rw (getD-take t ps i noSplit l) at (carried-next (take t ps) i r (omega arith))

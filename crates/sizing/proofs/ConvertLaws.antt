@@ -3,7 +3,7 @@ use mathlib.Core.Path.{_≡_, refl, sym, ap, _∙_}
 use mathlib.Core.List.{List, [], _∷_, map, map-map}
 use mathlib.Core.Logic.{inl}
 use mathlib.Core.Option.{none, some}
-use Prim.Native.Nat.{ℕ, zero, suc, _+_, _*_, _-_, _≤_, _<_}
+use Prim.Native.Nat.{ℕ, zero, suc, _+_, _*_, _≤_, _<_}
 use native.Mathlib.Omega.{arith}
 use native.Mathlib.Nat.{zero-add}
 use lib.ListN.{length, getD, take, length-map}
@@ -14,7 +14,7 @@ use Rattle.rules.specs.Forms.{variableOnly, formOf}
 use Rattle.sizing.specs.declared.forms.Form.{Form}
 use Rattle.sizing.specs.declared.splits.Split.{Split}
 use Rattle.sizing.specs.declared.paths.Saved.{Saved}
-use Rattle.sizing.specs.Put.{coefficient, put, AllBelow, widened}
+use Rattle.sizing.specs.Put.{coefficient, put, AllBounded, widened}
 use Rattle.rules.specs.Lists.{All}
 use Rattle.sizing.specs.Splits.{variableE, through, splitA, carried, SplitsRight, Numbered, Tidy, Loose, Carrying, noSplit}
 use Rattle.sizing.specs.States.{stackIn, splitsIn}
@@ -31,14 +31,14 @@ use Rattle.sizing.proofs.ListLaws.{getD-of-map, map-same, all-taken}
 use Rattle.sizing.proofs.StepLaws.{under-get}
 
 -- what decoding gives
-abbrev pub Light : Program → Type 0
-Light s = (c : ℕ) (k : Constructor) → constructor s c ≡ some k → k .weight ≤ 255
+abbrev pub ByteWeights : Program → Type 0
+ByteWeights s = (c : ℕ) (k : Constructor) → constructor s c ≡ some k → k .weight ≤ 255
 
 abbrev AllLight : List Split → Type 0
 AllLight [] = Unit {0}
 AllLight (p ∷ ps) = (p .weight ≤ 255) × AllLight ps
 
-light-of : (s : Program) → Light s → (ps : List Split) → SplitsRight s ps → AllLight ps
+light-of : (s : Program) → ByteWeights s → (ps : List Split) → SplitsRight s ps → AllLight ps
 light-of s l [] r = tt
 light-of s l (p ∷ ps) r = (rw (r .0 .weight) at (l (p .constructor) (r .0 .declared-as) (r .0 .known)), light-of s l ps (r .1))
 
@@ -47,13 +47,15 @@ light-at [] i h w = absurd (omega arith)
 light-at (p ∷ ps) zero h w = w .0
 light-at (p ∷ ps) (suc i) h w = light-at ps i (omega arith) (w .1)
 
-carried-loose : (ps : List Split) (n count k : ℕ) (a : Alternative) → Numbered n ps count → count ≤ 16 → AllLight ps → Loose n k a → Loose count (k + 3825 * length ps) (carried ps a)
+carried-loose : (ps : List Split) (n count k : ℕ) (a : Alternative) → Numbered n ps count → count ≤ 16 → AllLight ps → Loose n k a
+    → Loose count (k + 3825 * length ps) (carried ps a)
 unfolding carried
 carried-loose [] n count k a h l w t = let e : k + 3825 * 0 ≡ k = omega arith in rw (e, ← h) t
 carried-loose (p ∷ ps) n count k a h l w t =
     let e : k + 3825 * suc (length ps) ≡ k + 3825 + 3825 * length ps = omega arith in
     let g = numbered-le ps (n + p .parts) count (h .2) in
-    rw e (carried-loose ps (n + p .parts) count (k + 3825) (put (p .variable) (splitA p) a) (h .2) l (w .1) (put-loose n k a p t (h .0) (h .1) (omega arith) (w .0)))
+    rw e (carried-loose ps (n + p .parts) count (k + 3825) (put (p .variable) (splitA p) a) (h .2) l (w .1)
+    (put-loose n k a p t (h .0) (h .1) (omega arith) (w .0)))
 
 row-tidy : (n : ℕ) (a : Alternative) → n ≤ 16 → RowFits n a → Tidy n 65535 (wideRow a)
 row-tidy n a few r =
@@ -66,7 +68,9 @@ row-tidy n a few r =
     }
   where
     at : (i : ℕ) → coefficient (widened 0 (a .coefficients) (a .constant)) i ≡ getD (a .coefficients) i 0
-    at i = ap (λ (j : ℕ). coefficient (widened 0 (a .coefficients) (a .constant)) j) (sym (zero-add i)) ∙ (let h = r .narrow in widened-at 0 (a .coefficients) (a .constant) i (omega arith))
+    at i =
+        ap (λ (j : ℕ). coefficient (widened 0 (a .coefficients) (a .constant)) j) (sym (zero-add i))
+        ∙ (let h = r .narrow in widened-at 0 (a .coefficients) (a .constant) i (omega arith))
 
     beyond : (l : List ℕ) (i : ℕ) → length l ≤ i → getD l i 0 ≡ 0
     beyond [] i h = refl
@@ -80,9 +84,11 @@ pub record OwnBound (n : ℕ) (b : Bound) : Type 0 where
   pub padded : (i : ℕ) → i < b .count → ownRow (getD (b .rows) i noRow) ≡ wideRow (alternativeOf n (getD (b .rows) i noRow))
 
 pub rows-fit : (n : ℕ) (b : Bound) → OwnBound n b → (bound : List Alternative) → boundIn n b ≡ bound → All (RowFits n) bound
-rows-fit n b o bound is = rw (← is) (all-mapped (alternativeOf n) (λ row h. h) (all-taken (λ row. RowFits n (alternativeOf n row)) noRow (b .rows) (b .count) (o .fits)))
+rows-fit n b o bound is =
+    rw (← is) (all-mapped (alternativeOf n) (λ row h. h)
+    (all-taken (λ row. RowFits n (alternativeOf n row)) noRow (b .rows) (b .count) (o .fits)))
 
-module _ (s : Program) (f : Function) (st : Saved) (r : SavedRight s f st) (light : Light s) where
+module _ (s : Program) (f : Function) (st : Saved) (r : SavedRight s f st) (light : ByteWeights s) where
   splits-length : length (splitsIn st) ≡ st .taken
   splits-length = let a = r .list in let b = r .few in length-take-le (st .taken) (st .list) (omega arith)
 
@@ -100,12 +106,19 @@ module _ (s : Program) (f : Function) (st : Saved) (r : SavedRight s f st) (ligh
         loose = h;
         numbered = r .path .numbered;
         long = r .list;
-        light = λ i l. let z = splits-length in rw (getD-take (st .taken) (st .list) i noSplit l) at (light-at (splitsIn st) i (omega arith) (light-of s light (splitsIn st) (r .path .right)));
+        light =
+            λ i l. let z = splits-length in
+            rw (getD-take (st .taken) (st .list) i noSplit l)
+            at (light-at (splitsIn st) i (omega arith) (light-of s light (splitsIn st) (r .path .right)));
       }
 
   pub stack-asks : FormsAsks st
   stack-asks =
-      record { high = r .high; small = small; carrying = λ i h. carrying-of (variableOnly (getD (st .stack) i 0)) (loose-unit (arity f) 65535 (getD (st .stack) i 0) (small i h)) }
+      record {
+        high = r .high;
+        small = small;
+        carrying = λ i h. carrying-of (variableOnly (getD (st .stack) i 0)) (loose-unit (arity f) 65535 (getD (st .stack) i 0) (small i h));
+      }
     where
       small : (i : ℕ) → i < st .height → getD (st .stack) i 0 < 16
       small i h =
@@ -117,22 +130,28 @@ module _ (s : Program) (f : Function) (st : Saved) (r : SavedRight s f st) (ligh
   form-at v = form-through s (splitsIn st) (r .path .right) (variableE v) ∙ ap (map (carried (splitsIn st))) (variable-form s v)
 
   -- the forms of the stack
-  stack-same : (fs : List Form) → FormsAre st fs → map (formOf s) (map (λ v. through (splitsIn st) (variableE v)) (stackIn st)) ≡ map formIn (take (st .height) fs)
+  stack-same : (fs : List Form) → FormsAre st fs
+      → map (formOf s) (map (λ v. through (splitsIn st) (variableE v)) (stackIn st)) ≡ map formIn (take (st .height) fs)
   stack-same fs a =
       ext-getD [] (map (formOf s) (map (λ v. through (splitsIn st) (variableE v)) (stackIn st))) (map formIn (take (st .height) fs))
       (first ∙ sym second)
       (λ i l. let h : i < st .height = rw first at l in
-      getD-of-map (formOf s) (map (λ v. through (splitsIn st) (variableE v)) (stackIn st)) i (through (splitsIn st) (variableE 0)) [] (let z = length-map (stackIn st) (λ v. through (splitsIn st) (variableE v)) in let y = stack-length in omega arith)
-      ∙ ap (formOf s) (getD-of-map (λ v. through (splitsIn st) (variableE v)) (stackIn st) i 0 (through (splitsIn st) (variableE 0)) (let y = stack-length in omega arith))
+      getD-of-map (formOf s) (map (λ v. through (splitsIn st) (variableE v)) (stackIn st)) i (through (splitsIn st) (variableE 0)) []
+      (let z = length-map (stackIn st) (λ v. through (splitsIn st) (variableE v)) in let y = stack-length in omega arith)
+      ∙ ap (formOf s) (getD-of-map (λ v. through (splitsIn st) (variableE v)) (stackIn st) i 0 (through (splitsIn st) (variableE 0))
+      (let y = stack-length in omega arith))
       ∙ form-at (getD (stackIn st) i 0)
       ∙ ap (λ (v : ℕ). carried (splitsIn st) (variableOnly v) ∷ []) (getD-take (st .height) (st .stack) i 0 h)
-      ∙ sym (getD-of-map formIn (take (st .height) fs) i noForm [] (let y = fs-length in omega arith) ∙ ap formIn (getD-take (st .height) fs i noForm h) ∙ a .each i h .same))
+      ∙ sym (getD-of-map formIn (take (st .height) fs) i noForm [] (let y = fs-length in omega arith)
+      ∙ ap formIn (getD-take (st .height) fs i noForm h) ∙ a .each i h .same))
     where
       fs-length : length (take (st .height) fs) ≡ st .height
       fs-length = let l = a .long in let b = r .high in length-take-le (st .height) fs (omega arith)
 
       first : length (map (formOf s) (map (λ v. through (splitsIn st) (variableE v)) (stackIn st))) ≡ st .height
-      first = length-map (map (λ v. through (splitsIn st) (variableE v)) (stackIn st)) (formOf s) ∙ length-map (stackIn st) (λ v. through (splitsIn st) (variableE v)) ∙ stack-length
+      first =
+          length-map (map (λ v. through (splitsIn st) (variableE v)) (stackIn st)) (formOf s)
+          ∙ length-map (stackIn st) (λ v. through (splitsIn st) (variableE v)) ∙ stack-length
 
       second : length (map formIn (take (st .height) fs)) ≡ st .height
       second = length-map (take (st .height) fs) formIn ∙ fs-length
@@ -142,24 +161,31 @@ module _ (s : Program) (f : Function) (st : Saved) (r : SavedRight s f st) (ligh
     pub own-asks : OwnAsks b (record { taken = st .taken; list = st .list })
     own-asks = record {
       bound = o .right;
-      carrying = λ i h. carrying-of (ownRow (getD (b .rows) i noRow)) (rw (o .padded i h) (inl (row-tidy (arity f) (alternativeOf (arity f) (getD (b .rows) i noRow)) few (o .fits i h))));
+      carrying =
+          λ i h. carrying-of (ownRow (getD (b .rows) i noRow))
+          (rw (o .padded i h) (inl (row-tidy (arity f) (alternativeOf (arity f) (getD (b .rows) i noRow)) few (o .fits i h))));
     }
 
-    own-below : (bound : List Alternative) → All (RowFits (arity f)) bound → AllBelow 15 131072 (map (carried (splitsIn st)) (map wideRow bound))
+    own-below : (bound : List Alternative) → All (RowFits (arity f)) bound
+        → AllBounded 15 131072 (map (carried (splitsIn st)) (map wideRow bound))
     own-below bound w =
         let z = splits-length in let y = r .few in
         all-mapped (carried (splitsIn st)) (λ a h. h)
         (all-mapped wideRow
         (λ a h. loose-below (st .count) (65535 + 3825 * length (splitsIn st)) 131072 (carried (splitsIn st) (wideRow a)) (omega arith)
-        (carried-loose (splitsIn st) (arity f) (st .count) 65535 (wideRow a) (r .path .numbered) (r .path .few) (light-of s light (splitsIn st) (r .path .right)) (inl (row-tidy (arity f) a few h))))
+        (carried-loose (splitsIn st) (arity f) (st .count) 65535 (wideRow a) (r .path .numbered) (r .path .few)
+        (light-of s light (splitsIn st) (r .path .right)) (inl (row-tidy (arity f) a few h))))
         w)
 
     -- all entries are covered, and small
-    pub converted : (fs : List Form) (own : Form) → FormsAre st fs → OwnIs b (record { taken = st .taken; list = st .list }) own → LineRight s f (shapeIn (arity f) st) own fs (st .height)
+    pub converted : (fs : List Form) (own : Form) → FormsAre st fs → OwnIs b (record { taken = st .taken; list = st .list }) own
+        → LineRight s f (shapeIn (arity f) st) own fs (st .height)
     converted fs own a w =
         record {
           bound = w .right;
-          most = rw (own-is, own-rows s (arity f) (f .bound) (rows-fit (arity f) b o (f .bound) is)) (own-below (f .bound) (rows-fit (arity f) b o (f .bound) is));
+          most =
+              rw (own-is, own-rows s (arity f) (f .bound) (rows-fit (arity f) b o (f .bound) is))
+              (own-below (f .bound) (rows-fit (arity f) b o (f .bound) is));
           shaped = own-is ∙ sym (own-through s f (splitsIn st) (r .path .right));
           long = a .long;
           high = r .high;
@@ -167,7 +193,8 @@ module _ (s : Program) (f : Function) (st : Saved) (r : SavedRight s f st) (ligh
             right = a .each i h .right;
             some = let z = a .each i h .one in omega arith;
             covered = rw (own-is, a .each i h .same) (r .path .covered (getD (st .stack) i 0)
-                (let z = stack-length in rw (getD-take (st .height) (st .stack) i 0 h) at (under-get (st .count) (stackIn st) i (omega arith) (r .under))));
+                (let z = stack-length in rw (getD-take (st .height) (st .stack) i 0 h) at (under-get (st .count) (stackIn st) i
+                (omega arith) (r .under))));
           };
           same = stack-same fs a;
         }
@@ -175,7 +202,8 @@ module _ (s : Program) (f : Function) (st : Saved) (r : SavedRight s f st) (ligh
         own-is : formIn own ≡ map (carried (splitsIn st)) (ownAt s f)
         own-is =
             w .same
-            ∙ map-same (λ row. carried (splitsIn st) (ownRow row)) (λ row. carried (splitsIn st) (wideRow (alternativeOf (arity f) row))) noRow (b .rows) (b .count) (λ i h. ap (carried (splitsIn st)) (o .padded i h))
+            ∙ map-same (λ row. carried (splitsIn st) (ownRow row)) (λ row. carried (splitsIn st) (wideRow (alternativeOf (arity f) row)))
+            noRow (b .rows) (b .count) (λ i h. ap (carried (splitsIn st)) (o .padded i h))
             ∙ sym (map-map (λ a. carried (splitsIn st) (wideRow a)) (alternativeOf (arity f)) (take (b .count) (b .rows)))
             ∙ ap (map (λ a. carried (splitsIn st) (wideRow a))) is
             ∙ sym (map-map (carried (splitsIn st)) wideRow (f .bound))

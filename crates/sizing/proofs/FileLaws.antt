@@ -13,12 +13,14 @@ use borrow.Author.Tests.{leb-true, ltb-true, ltb-false}
 use Rattle.rules.specs.Base.{refusal, found, numbered, isZero, all, any, byteAt, wordAt}
 use Rattle.rules.specs.Container.{payload}
 use Rattle.rules.specs.Program.{Constructor, Function, arity, constructor, function}
-use Rattle.rules.specs.Records.{alternativeAt, constructorAt, instructionAt, pastZero, alternativeRight, constructorOffset, alternativeOffset, codeOffset, instructionOffset, headOffset, constructorOf, alternativeOf, instructionOf, functionOf, programOf, fourAt}
+use Rattle.rules.specs.Records.{alternativeAt, constructorAt, instructionAt, pastZero, alternativeRight, constructorOffset}
+use Rattle.rules.specs.Records.{alternativeOffset, codeOffset, instructionOffset, headOffset, constructorOf, alternativeOf, instructionOf}
+use Rattle.rules.specs.Records.{functionOf, programOf, fourAt, programIn, functionIn}
 use Rattle.rules.specs.Declarations.{counted, argumentRule, boundRule, boundsRight}
 use Rattle.rules.specs.Stacks.{slot}
 use Rattle.rules.specs.Flow.{flowOf, flowRight}
 use Rattle.rules.specs.Types.{typesOf, typesRight}
-use Rattle.rules.specs.Opened.{FunctionThere}
+use Rattle.rules.specs.There.{FunctionThere}
 use Rattle.rules.proofs.ListLaws.{none-some, some-inj, and-left, and-right, all-true, all-getD}
 use Rattle.rules.proofs.TriedLaws.{required, each-found}
 use Rattle.rules.proofs.NumberedLaws.{numbered-length, numbered-at, numbered-past}
@@ -26,11 +28,11 @@ use Rattle.rules.proofs.RecordLaws.{arguments-length}
 use Rattle.tables.proofs.TableLaws.{byte-small}
 use Rattle.sizing.specs.declared.forms.Bound.{Bound}
 use Rattle.sizing.specs.Forms.{boundIn, noRow, BoundRight}
-use Rattle.sizing.specs.Routines.{Tables, BoundIs}
-use Rattle.sizing.specs.Walking.{programIn, functionIn, Walking}
+use Rattle.sizing.specs.Routines.{NameTables, BoundIs}
+use Rattle.sizing.specs.Walking.{Walking}
 use Rattle.sizing.proofs.ListLaws.{getD-element, element-at}
 use Rattle.sizing.proofs.OwnLaws.{widened-past}
-use Rattle.sizing.proofs.ConvertLaws.{Light, OwnBound}
+use Rattle.sizing.proofs.ConvertLaws.{ByteWeights, OwnBound}
 
 -- an element of a numbered list, and back
 numbered-is : {A : Type 0} (f : ℕ → A) (n i : ℕ) {x : A} → getElem? (numbered f 0 n) i ≡ some x → (i < n) × (x ≡ f i)
@@ -46,7 +48,8 @@ numbered-there : {A : Type 0} (f : ℕ → A) (n i : ℕ) → i < n → getElem?
 numbered-there f n i h = numbered-at f n 0 i h ∙ ap (λ (k : ℕ). some (f k)) (zero-add i)
 
 -- a list by its elements
-numbered-list : {A B : Type 0} (g : A → B) (d : A) (f : ℕ → A) (xs : List A) (n : ℕ) → n ≤ length xs → ((k : ℕ) → k < n → getD xs k d ≡ f k) → map g (take n xs) ≡ numbered (λ k. g (f k)) 0 n
+numbered-list : {A B : Type 0} (g : A → B) (d : A) (f : ℕ → A) (xs : List A) (n : ℕ) → n ≤ length xs → ((k : ℕ) → k < n → getD xs k d ≡ f k)
+    → map g (take n xs) ≡ numbered (λ k. g (f k)) 0 n
 numbered-list g d f xs n l h =
     let a = length-map (take n xs) g ∙ length-take-le n xs l in
     let b = numbered-length (λ k. g (f k)) n 0 in
@@ -57,39 +60,41 @@ numbered-list g d f xs n l h =
     at : (i : ℕ) → i < n → getD (map g (take n xs)) i (g d) ≡ g (f i)
     at i k = List·getD-map g (take n xs) i d ∙ ap g (getD-take n xs i d k ∙ h i k)
 
-module _ {file : List ℕ} {n : ℕ} {ts : Tables} (w : Walking file n ts) where
+module _ {file : List ℕ} {ts : NameTables} (w : Walking file ts) where
   ---- Constructors
 
-  pub constructor-named : (c : ℕ) (k : Constructor) → constructor (programIn file) c ≡ some k → (c < byteAt (payload file) 2) × (k ≡ constructorOf (constructorAt (payload file) (constructorOffset c)))
+  pub constructor-named : (c : ℕ) (k : Constructor) → constructor (programIn file) c ≡ some k → (c < byteAt (payload file) 2)
+      × (k ≡ constructorOf (constructorAt (payload file) (constructorOffset c)))
   unfolding programOf
-  constructor-named c k e = numbered-is (λ c. constructorOf (constructorAt (payload file) (constructorOffset c))) (byteAt (payload file) 2) c e
+  constructor-named c k e =
+      numbered-is (λ c. constructorOf (constructorAt (payload file) (constructorOffset c))) (byteAt (payload file) 2) c e
 
   -- what is read of it
   pub constructor-read : (c : ℕ) (k : Constructor) → constructor (programIn file) c ≡ some k
-      → (length (k .arguments) ≡ byteAt (payload file) (constructorOffset c + 1)) × (length (k .arguments) ≤ 4) × (k .weight ≡ byteAt (payload file) (constructorOffset c + 6))
+      → (length (k .arguments) ≡ byteAt (payload file) (constructorOffset c + 1)) × (length (k .arguments) ≤ 4)
+      × (k .weight ≡ byteAt (payload file) (constructorOffset c + 6))
   unfolding constructorOf
   constructor-read c k e =
       let r = constructor-named c k e in
       let four = w .records .there .constructor c (r .0) .1 in
-      let long : length (k .arguments) ≡ byteAt (payload file) (constructorOffset c + 1) = ap (λ (y : Constructor). length (y .arguments)) (r .1) ∙ arguments-length (payload file) (constructorOffset c) four in
+      let long : length (k .arguments) ≡ byteAt (payload file) (constructorOffset c + 1) =
+      ap (λ (y : Constructor). length (y .arguments)) (r .1) ∙ arguments-length (payload file) (constructorOffset c) four in
       (long, omega arith, ap (λ (y : Constructor). y .weight) (r .1))
 
-  pub light : Light (programIn file)
-  light c k e = omega (arith, constructor-read c k e .2, byte-small (w .records .opened) (w .records .bytes) (constructorOffset c + 6))
+  pub light : ByteWeights (programIn file)
+  light c k e = omega (arith, constructor-read c k e .2, byte-small (w .records .verified) (w .records .bytes) (constructorOffset c + 6))
 
   ---- Functions
 
-  pub function-named : (g : ℕ) (f : Function) → function (programIn file) g ≡ some f → (g < byteAt (payload file) 3) × (f ≡ functionIn file g)
+  pub function-named : (g : ℕ) (f : Function) → function (programIn file) g ≡ some f → (g < byteAt (payload file) 3)
+      × (f ≡ functionIn file g)
   unfolding programOf
-  function-named g f e = numbered-is (λ g. functionOf (payload file) (headOffset (payload file) g)) (byteAt (payload file) 3) g e
+  function-named g f e = numbered-is (λ g. functionIn file g) (byteAt (payload file) 3) g e
 
   module _ (g : ℕ) (h : g < byteAt (payload file) 3) where
     function-is : function (programIn file) g ≡ some (functionIn file g)
     unfolding programOf
-    function-is = numbered-there (λ g. functionOf (payload file) (headOffset (payload file) g)) (byteAt (payload file) 3) g h
-
-    abbrev place : ℕ
-    place = headOffset (payload file) g
+    function-is = numbered-there (λ g. functionIn file g) (byteAt (payload file) 3) g h
 
     pub here : FunctionThere (payload file) (headOffset (payload file) g)
     here = w .records .there .function g h
@@ -103,58 +108,76 @@ module _ {file : List ℕ} {n : ℕ} {ts : Tables} (w : Walking file n ts) where
 
     pub code-length : length (functionIn file g .code) ≡ wordAt (payload file) (headOffset (payload file) g + 8)
     unfolding functionOf
-    code-length = numbered-length (λ i. instructionOf (instructionAt (payload file) (instructionOffset (codeOffset (payload file) (headOffset (payload file) g)) i))) (wordAt (payload file) (headOffset (payload file) g + 8)) 0
+    code-length =
+        numbered-length (λ i. instructionOf (instructionAt (payload file)
+        (instructionOffset (codeOffset (payload file) (headOffset (payload file) g)) i)))
+        (wordAt (payload file) (headOffset (payload file) g + 8)) 0
 
     pub some-code : 1 ≤ length (functionIn file g .code)
     some-code = omega (arith, code-length, here .some-code)
 
     -- instruction i, from 1
     pub code-at : (i : ℕ) → 1 ≤ i → i ≤ length (functionIn file g .code)
-        → (slot i (functionIn file g .code) ≡ some (instructionOf (instructionAt (payload file) (instructionOffset (codeOffset (payload file) (headOffset (payload file) g)) (i - 1)))))
-        × (instructionOffset (codeOffset (payload file) (headOffset (payload file) g)) (i - 1) + 4 ≤ n)
+        → (slot i (functionIn file g .code)
+        ≡ some (instructionOf (instructionAt (payload file)
+        (instructionOffset (codeOffset (payload file) (headOffset (payload file) g)) (i - 1)))))
+        × (instructionOffset (codeOffset (payload file) (headOffset (payload file) g)) (i - 1) + 4 ≤ length (payload file))
     unfolding functionOf
     code-at zero l m = absurd (omega arith)
     code-at (suc i) l m =
         let z : suc i - 1 ≡ i = omega arith in
         let c = code-length in
-        let o = w .records .opened .long in
         rw z (
-          numbered-there (λ i. instructionOf (instructionAt (payload file) (instructionOffset (codeOffset (payload file) (headOffset (payload file) g)) i))) (wordAt (payload file) (headOffset (payload file) g + 8)) i (omega arith),
-          rw o (here .instruction i (omega arith) .0),
+          numbered-there (λ i. instructionOf
+              (instructionAt (payload file) (instructionOffset (codeOffset (payload file) (headOffset (payload file) g)) i)))
+              (wordAt (payload file) (headOffset (payload file) g + 8)) i (omega arith),
+          here .instruction i (omega arith) .0,
         )
 
     pub flow-found : (T : List (List Bool)) × (flowOf g (functionIn file g) ≡ found T)
     unfolding flowRight
-    flow-found = let r = each-found flowOf 0 (programIn file .functions) (w .flow) g function-is in (r .0, rw (zero-add g) at (r .1))
+    flow-found =
+        let r = each-found flowOf 0 (programIn file .functions) (w .typechecked .flowing .flow) g function-is in
+        (r .0, rw (zero-add g) at (r .1))
 
     pub types-found : (U : List (List (List ℕ))) × (typesOf (programIn file) g (functionIn file g) ≡ found U)
     unfolding typesRight
-    types-found = let r = each-found (typesOf (programIn file)) 0 (programIn file .functions) (w .types) g function-is in (r .0, rw (zero-add g) at (r .1))
+    types-found =
+        let r = each-found (typesOf (programIn file)) 0 (programIn file .functions) (w .typechecked .types) g function-is in
+        (r .0, rw (zero-add g) at (r .1))
 
     -- 6: each parameter counts in the bound
-    pub parameter-counts : (v : ℕ) → v < arity (functionIn file g) → any (λ a. ltb 0 (getD (a .coefficients) v 0)) (functionIn file g .bound) ≡ true
+    pub parameter-counts : (v : ℕ) → v < arity (functionIn file g)
+        → any (λ a. ltb 0 (getD (a .coefficients) v 0)) (functionIn file g .bound) ≡ true
     unfolding boundsRight boundRule argumentRule counted
     parameter-counts v l =
-        let r = each-found boundRule 0 (programIn file .functions) (w .bounds) g function-is in
-        let q = each-found (argumentRule (0 + g) (functionIn file g)) 1 (functionIn file g .parameters) (r .1) v (element-at 0 (functionIn file g .parameters) v l) in
+        let r = each-found boundRule 0 (programIn file .functions) (w .typechecked .flowing .declared .bounds) g function-is in
+        let q = each-found (argumentRule (0 + g) (functionIn file g)) 1 (functionIn file g .parameters) (r .1) v
+        (element-at 0 (functionIn file g .parameters) v l) in
         let e : 1 + v - 1 ≡ v = omega arith in
         rw e at (required (counted (1 + v) (functionIn file g .bound)) (refusal 6 (0 + g) (1 + v)) (q .1))
 
     ---- The bound
 
-    module _ (b : Bound) (is : BoundIs (payload file) (headOffset (payload file) g) (byteAt (payload file) (headOffset (payload file) g + 6)) b) where
-      row-is : (i : ℕ) → i < b .count → getD (b .rows) i noRow ≡ alternativeAt (payload file) (alternativeOffset (headOffset (payload file) g) i)
+    module _ (b : Bound) (is : BoundIs (payload file) (headOffset (payload file) g)
+        (byteAt (payload file) (headOffset (payload file) g + 6)) b) where
+      row-is : (i : ℕ) → i < b .count → getD (b .rows) i noRow
+          ≡ alternativeAt (payload file) (alternativeOffset (headOffset (payload file) g) i)
       row-is i l = is .rows i (omega (arith, is .count-is))
 
-      row-right : (i : ℕ) → i < b .count → alternativeRight (byteAt (payload file) (headOffset (payload file) g + 1)) (alternativeAt (payload file) (alternativeOffset (headOffset (payload file) g) i)) ≡ true
+      row-right : (i : ℕ) → i < b .count → alternativeRight (byteAt (payload file) (headOffset (payload file) g + 1))
+          (alternativeAt (payload file) (alternativeOffset (headOffset (payload file) g) i)) ≡ true
       row-right i l = here .alternative i (omega (arith, is .count-is)) .1
 
-      small-at : (i : ℕ) → i < b .count → (k : ℕ) → getD (fourAt (payload file) (alternativeOffset (headOffset (payload file) g) i)) k 0 ≤ 15
+      small-at : (i : ℕ) → i < b .count → (k : ℕ)
+          → getD (fourAt (payload file) (alternativeOffset (headOffset (payload file) g) i)) k 0 ≤ 15
       unfolding alternativeRight
       small-at i l k =
           all-getD k 0 zero-le
           (all-true (λ c. leb c 15) (λ c h. leb-true c 15 h) (fourAt (payload file) (alternativeOffset (headOffset (payload file) g) i))
-          (and-right (pastZero (byteAt (payload file) (headOffset (payload file) g + 1)) (fourAt (payload file) (alternativeOffset (headOffset (payload file) g) i))) (all (λ c. leb c 15) (fourAt (payload file) (alternativeOffset (headOffset (payload file) g) i))) (row-right i l)))
+          (and-right (pastZero (byteAt (payload file) (headOffset (payload file) g + 1))
+          (fourAt (payload file) (alternativeOffset (headOffset (payload file) g) i)))
+          (all (λ c. leb c 15) (fourAt (payload file) (alternativeOffset (headOffset (payload file) g) i))) (row-right i l)))
 
       pub bound-right : BoundRight b
       bound-right =
@@ -166,7 +189,14 @@ module _ {file : List ℕ} {n : ℕ} {ts : Tables} (w : Walking file n ts) where
             each = λ i l. rw (row-is i l) (record {
               four = refl;
               small = small-at i l;
-              constant = omega (arith, byte-small (w .records .opened) (w .records .bytes) (alternativeOffset (headOffset (payload file) g) i + 4), byte-small (w .records .opened) (w .records .bytes) (alternativeOffset (headOffset (payload file) g) i + 4 + 1));
+              constant =
+                  omega (
+                    arith,
+                    byte-small (w .records .verified) (w .records .bytes) (alternativeOffset (headOffset (payload file) g)
+                        i + 4),
+                    byte-small (w .records .verified) (w .records .bytes) (alternativeOffset (headOffset (payload file) g)
+                        i + 4 + 1),
+                  );
             });
           }
 
@@ -175,21 +205,42 @@ module _ {file : List ℕ} {n : ℕ} {ts : Tables} (w : Walking file n ts) where
       bound-is =
           let c = is .count-is in let l = is .long in let hi = here .few-alternatives in
           ap (λ (k : ℕ). map (alternativeOf (byteAt (payload file) (headOffset (payload file) g + 1))) (take k (b .rows))) c
-          ∙ numbered-list (alternativeOf (byteAt (payload file) (headOffset (payload file) g + 1))) noRow (λ k. alternativeAt (payload file) (alternativeOffset (headOffset (payload file) g) k)) (b .rows) (byteAt (payload file) (headOffset (payload file) g + 6)) (omega arith) (is .rows)
+          ∙ numbered-list (alternativeOf (byteAt (payload file) (headOffset (payload file) g + 1))) noRow
+          (λ k. alternativeAt (payload file) (alternativeOffset (headOffset (payload file) g) k)) (b .rows)
+          (byteAt (payload file) (headOffset (payload file) g + 6)) (omega arith) (is .rows)
 
       pub own-bound : OwnBound (byteAt (payload file) (headOffset (payload file) g + 1)) b
       unfolding alternativeOf alternativeRight
       own-bound = record {
         right = bound-right;
         fits = λ i l. rw (row-is i l) (record {
-          narrow = omega (arith, length-take-le (byteAt (payload file) (headOffset (payload file) g + 1)) (fourAt (payload file) (alternativeOffset (headOffset (payload file) g) i)) (here .arity));
-          small = λ k. taken (byteAt (payload file) (headOffset (payload file) g + 1)) (fourAt (payload file) (alternativeOffset (headOffset (payload file) g) i)) k (small-at i l k);
-          constant = omega (arith, byte-small (w .records .opened) (w .records .bytes) (alternativeOffset (headOffset (payload file) g) i + 4), byte-small (w .records .opened) (w .records .bytes) (alternativeOffset (headOffset (payload file) g) i + 4 + 1));
+          narrow =
+              omega (
+                arith,
+                length-take-le (byteAt (payload file) (headOffset (payload file) g + 1)) (fourAt (payload file)
+                    (alternativeOffset (headOffset (payload file) g) i)) (here .arity),
+              );
+          small =
+              λ k. taken (byteAt (payload file) (headOffset (payload file) g + 1))
+              (fourAt (payload file) (alternativeOffset (headOffset (payload file) g) i)) k (small-at i l k);
+          constant =
+              omega (
+                arith,
+                byte-small (w .records .verified) (w .records .bytes) (alternativeOffset (headOffset (payload file) g)
+                    i + 4),
+                byte-small (w .records .verified) (w .records .bytes) (alternativeOffset (headOffset (payload file) g) i + 4 + 1),
+              );
         });
         padded = λ i l. rw (row-is i l)
-            (widened-past (byteAt (payload file) (headOffset (payload file) g + 1)) 0 (fourAt (payload file) (alternativeOffset (headOffset (payload file) g) i)) (wordAt (payload file) (alternativeOffset (headOffset (payload file) g) i + 4))
-            (and-right (leb (byteAt (payload file) (headOffset (payload file) g + 1)) 4) (all isZero (drop (byteAt (payload file) (headOffset (payload file) g + 1)) (fourAt (payload file) (alternativeOffset (headOffset (payload file) g) i))))
-            (and-left (pastZero (byteAt (payload file) (headOffset (payload file) g + 1)) (fourAt (payload file) (alternativeOffset (headOffset (payload file) g) i))) (all (λ c. leb c 15) (fourAt (payload file) (alternativeOffset (headOffset (payload file) g) i))) (row-right i l))));
+            (widened-past (byteAt (payload file) (headOffset (payload file) g + 1)) 0
+            (fourAt (payload file) (alternativeOffset (headOffset (payload file) g) i))
+            (wordAt (payload file) (alternativeOffset (headOffset (payload file) g) i + 4))
+            (and-right (leb (byteAt (payload file) (headOffset (payload file) g + 1)) 4)
+            (all isZero (drop (byteAt (payload file) (headOffset (payload file) g + 1))
+            (fourAt (payload file) (alternativeOffset (headOffset (payload file) g) i))))
+            (and-left (pastZero (byteAt (payload file) (headOffset (payload file) g + 1))
+            (fourAt (payload file) (alternativeOffset (headOffset (payload file) g) i)))
+            (all (λ c. leb c 15) (fourAt (payload file) (alternativeOffset (headOffset (payload file) g) i))) (row-right i l))));
       }
         where
           taken : (m : ℕ) (xs : List ℕ) (k : ℕ) → getD xs k 0 ≤ 15 → getD (take m xs) k 0 ≤ 15

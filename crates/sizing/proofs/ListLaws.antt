@@ -57,10 +57,12 @@ drop-take zero n xs = rw (zero-add n)
 drop-take {A} (suc k) n [] = rw (take-nil {A = A} (suc k + n), take-nil {A = A} n)
 drop-take (suc k) n (x ∷ xs) = rw (suc-add k n) (drop-take k n xs)
 
-pub map-next : {A B : Type 0} (d : A) (f : A → B) (l : List A) (i : ℕ) → i < length l → map f (take (i + 1) l) ≡ map f (take i l) ++ (f (getD l i d) ∷ [])
+pub map-next : {A B : Type 0} (d : A) (f : A → B) (l : List A) (i : ℕ) → i < length l → map f (take (i + 1) l) ≡ map f (take i l)
+    ++ (f (getD l i d) ∷ [])
 map-next d f l i h = rw (add-one i, take-suc l i d h) (map-append f (take i l) (getD l i d ∷ []))
 
-pub map-same : {A B : Type 0} (f g : A → B) (d : A) (l : List A) (k : ℕ) → ((i : ℕ) → i < k → f (getD l i d) ≡ g (getD l i d)) → map f (take k l) ≡ map g (take k l)
+pub map-same : {A B : Type 0} (f g : A → B) (d : A) (l : List A) (k : ℕ) → ((i : ℕ) → i < k → f (getD l i d) ≡ g (getD l i d))
+    → map f (take k l) ≡ map g (take k l)
 map-same f g d l zero h = refl
 map-same f g d [] (suc k) h = refl
 map-same f g d (x ∷ l) (suc k) h = let a = h 0 (omega arith) in let b = map-same f g d l k (λ i m. h (suc i) (omega arith)) in cc

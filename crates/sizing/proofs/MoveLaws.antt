@@ -17,7 +17,7 @@ use Rattle.rules.specs.declared.records.Instruction.the-variants.{Load, Branch}
 use Rattle.rules.specs.Base.{refusal, found, refused, if_then_else_, byteAt}
 use Rattle.rules.specs.Container.{payload}
 use Rattle.rules.specs.Program.{Constructor, Program, arity, constructor}
-use Rattle.rules.specs.Records.{constructorAt, constructorOffset}
+use Rattle.rules.specs.Records.{constructorAt, constructorOffset, programIn, functionIn}
 use Rattle.rules.specs.Walk.{Arrow, arriving, first}
 use Rattle.rules.specs.Shapes.{Shape, shapeFrom, shapeRule}
 use Rattle.rules.specs.Answers.{refusalOf}
@@ -35,8 +35,8 @@ use Rattle.sizing.specs.States.{stackIn, splitsIn, SameSplits}
 use Rattle.sizing.specs.Right.{shapeIn}
 use Rattle.sizing.specs.Steps.{given, arrowsOf, BranchAsks, BranchSays, Branching}
 use Rattle.sizing.specs.Left.{leftFrom}
-use Rattle.sizing.specs.Routines.{Tables}
-use Rattle.sizing.specs.Walking.{programIn, functionIn, LineAsks, LineSays}
+use Rattle.sizing.specs.Routines.{NameTables}
+use Rattle.sizing.specs.Walking.{LineAsks, LineSays}
 use Rattle.sizing.specs.Moves.{StayIs, MoveAsks, LineMoveAsks, StepAsks, standing, leaving, moveLeft, Lands, StepSays}
 use Rattle.sizing.proofs.WalkLaws.{outcome-skipped, outcome-refused, outcome-goes}
 use Rattle.sizing.proofs.ChartLaws.{Branches}
@@ -51,20 +51,26 @@ right-refused : {why : Reason} → _≡_ {A = Checked} (checked.Refused why) che
 right-refused e = let z : _≡_ {A = ℕ} 0 1 = cc in omega arith
 
 module _ {file : List ℕ} {g i : ℕ} {st : Saved} {m : Moved} where
-  pub said-right : m .checked ≡ checked.Right
+  said-right : m .checked ≡ checked.Right
       → ((arrows : List (Arrow Shape)) → first (arriving i arrows) ≡ standing (arity (functionIn file g)) st
-      → leftFrom (programIn file) g (functionIn file g) i arrows ≡ leftFrom (programIn file) g (functionIn file g) (m .on) (leaving (arity (functionIn file g)) m ++ arrows))
+      → leftFrom (programIn file) g (functionIn file g) i arrows
+      ≡ leftFrom (programIn file) g (functionIn file g) (m .on) (leaving (arity (functionIn file g)) m ++ arrows))
       → Lands file g i m → StepSays file g i st m
   said-right e h l = record { left = λ arrows q. h arrows q ∙ sym (ap (λ (c : Checked). moveLeft file g m c arrows) e); lands = λ _. l }
 
-  pub said-refused : {why : Reason} → m .checked ≡ checked.Refused why
-      → ((arrows : List (Arrow Shape)) → first (arriving i arrows) ≡ standing (arity (functionIn file g)) st → leftFrom (programIn file) g (functionIn file g) i arrows ≡ refused (refusalOf why))
+  said-refused : {why : Reason} → m .checked ≡ checked.Refused why
+      → ((arrows : List (Arrow Shape)) → first (arriving i arrows) ≡ standing (arity (functionIn file g)) st
+      → leftFrom (programIn file) g (functionIn file g) i arrows ≡ refused (refusalOf why))
       → StepSays file g i st m
-  said-refused e h = record { left = λ arrows q. h arrows q ∙ sym (ap (λ (c : Checked). moveLeft file g m c arrows) e); lands = λ z. absurd (right-refused (sym e ∙ z)) }
+  said-refused e h = record {
+    left = λ arrows q. h arrows q ∙ sym (ap (λ (c : Checked). moveLeft file g m c arrows) e);
+    lands = λ z. absurd (right-refused (sym e ∙ z));
+  }
 
   -- nothing leaves
-  pub said-stay : {on : ℕ} → StayIs on m → i < on
-      → ((arrows : List (Arrow Shape)) → first (arriving i arrows) ≡ standing (arity (functionIn file g)) st → leftFrom (programIn file) g (functionIn file g) i arrows ≡ leftFrom (programIn file) g (functionIn file g) on arrows)
+  said-stay : {on : ℕ} → StayIs on m → i < on
+      → ((arrows : List (Arrow Shape)) → first (arriving i arrows) ≡ standing (arity (functionIn file g)) st
+      → leftFrom (programIn file) g (functionIn file g) i arrows ≡ leftFrom (programIn file) g (functionIn file g) on arrows)
       → StepSays file g i st m
   said-stay s l h =
       said-right (s .right) (λ arrows q. h arrows q ∙ rw (s .next, s .other, s .goes))
@@ -78,34 +84,44 @@ module _ {file : List ℕ} {g i : ℕ} {st : Saved} {m : Moved} where
 
 ---- Nothing arrives
 
-pub said-skipped : {file : List ℕ} {n : ℕ} {ts : Tables} {g : ℕ} {r : Routine} {i : ℕ} {st : Saved} → StepAsks file n ts g r i st → {m : Moved} → st .visited ≡ false → StayIs (i + 1) m → StepSays file g i st m
-said-skipped {file} {n} {ts} {g} {r} {i} {st} a {m} v s =
+pub said-skipped : {file : List ℕ} {ts : NameTables} {g : ℕ} {r : Routine} {i : ℕ} {st : Saved} → StepAsks file ts g r i st → {m : Moved}
+    → st .visited ≡ false → StayIs (i + 1) m → StepSays file g i st m
+said-skipped {file} {ts} {g} {r} {i} {st} a {m} v s =
     let w = a .function .walking in let t = a .function .there in
     let c = code-at w g t i (a .some-i) (omega (arith, a .last, a .routine .last, code-length w g t)) in
     said-stay s (omega arith)
-    (λ arrows q. rw (add-one i) (outcome-skipped (shapeRule (programIn file) g (functionIn file g)) (functionIn file g .code) i arrows (c .0) (q ∙ rw v)))
+    (λ arrows q. rw (add-one i) (outcome-skipped (shapeRule (programIn file) g (functionIn file g)) (functionIn file g .code) i arrows
+    (c .0) (q ∙ rw v)))
 
 ---- A state arrives
 
-module _ {file : List ℕ} {n : ℕ} {ts : Tables} {g i : ℕ} {st : Saved} {ins : Instruction} (a : MoveAsks file n ts g i st ins) where
-  arrives : (arrows : List (Arrow Shape)) → first (arriving i arrows) ≡ standing (arity (functionIn file g)) st → first (arriving i arrows) ≡ some (shapeIn (arity (functionIn file g)) st)
+module _ {file : List ℕ} {ts : NameTables} {g i : ℕ} {st : Saved} {ins : Instruction} (a : MoveAsks file ts g i st ins) where
+  arrives : (arrows : List (Arrow Shape)) → first (arriving i arrows) ≡ standing (arity (functionIn file g)) st
+      → first (arriving i arrows) ≡ some (shapeIn (arity (functionIn file g)) st)
   arrives arrows q = q ∙ rw (a .visited)
 
-  rule : shapeRule (programIn file) g (functionIn file g) i ins (shapeIn (arity (functionIn file g)) st) ≡ shapeFrom (programIn file) g (functionIn file g) i ins (shapeIn (arity (functionIn file g)) st)
-  rule = let r = a .fit .right in rule-from (programIn file) g (functionIn file g) (splitsIn st) (st .count) (stackIn st) (r .path) (r .under) i ins
+  rule : shapeRule (programIn file) g (functionIn file g) i ins (shapeIn (arity (functionIn file g)) st)
+      ≡ shapeFrom (programIn file) g (functionIn file g) i ins (shapeIn (arity (functionIn file g)) st)
+  rule =
+      let r = a .fit .right in
+      rule-from (programIn file) g (functionIn file g) (splitsIn st) (st .count) (stackIn st) (r .path) (r .under) i ins
 
-  goes : (L : List (Arrow Shape)) → shapeFrom (programIn file) g (functionIn file g) i ins (shapeIn (arity (functionIn file g)) st) ≡ found L
-      → (arrows : List (Arrow Shape)) → first (arriving i arrows) ≡ standing (arity (functionIn file g)) st → leftFrom (programIn file) g (functionIn file g) i arrows ≡ leftFrom (programIn file) g (functionIn file g) (i + 1) (L ++ arrows)
+  goes : (L : List (Arrow Shape)) → shapeFrom (programIn file) g (functionIn file g) i ins (shapeIn (arity (functionIn file g)) st)
+      ≡ found L
+      → (arrows : List (Arrow Shape)) → first (arriving i arrows) ≡ standing (arity (functionIn file g)) st
+      → leftFrom (programIn file) g (functionIn file g) i arrows ≡ leftFrom (programIn file) g (functionIn file g) (i + 1) (L ++ arrows)
   goes L h arrows q =
-      rw (add-one i) (outcome-goes (shapeRule (programIn file) g (functionIn file g)) (functionIn file g .code) i arrows (a .is) (shapeIn (arity (functionIn file g)) st) L (arrives arrows q) (rule ∙ h))
+      rw (add-one i) (outcome-goes (shapeRule (programIn file) g (functionIn file g)) (functionIn file g .code) i arrows (a .is)
+      (shapeIn (arity (functionIn file g)) st) L (arrives arrows q) (rule ∙ h))
 
   -- a return or a stop
-  pub said-end : {m : Moved} → shapeFrom (programIn file) g (functionIn file g) i ins (shapeIn (arity (functionIn file g)) st) ≡ found [] → StayIs (i + 1) m → StepSays file g i st m
+  pub said-end : {m : Moved} → shapeFrom (programIn file) g (functionIn file g) i ins (shapeIn (arity (functionIn file g)) st) ≡ found []
+      → StayIs (i + 1) m → StepSays file g i st m
   said-end h s = said-stay s (omega arith) (goes [] h)
 
 ---- A load
 
-module _ {file : List ℕ} {n : ℕ} {ts : Tables} {g i : ℕ} {st : Saved} {v : ℕ} (a : MoveAsks file n ts g i st (Load v)) where
+module _ {file : List ℕ} {ts : NameTables} {g i : ℕ} {st : Saved} {v : ℕ} (a : MoveAsks file ts g i st (Load v)) where
   pub move-load-asks : (1 ≤ v) × (v ≤ st .height) × (st .height < 16) × (i + 1 ≤ 256)
   move-load-asks =
       let w = a .function .walking in let t = a .function .there in
@@ -114,7 +130,8 @@ module _ {file : List ℕ} {n : ℕ} {ts : Tables} {g i : ℕ} {st : Saved} {v :
       let p = at-place w t (y .2) _ refl in
       (y .0, y .1, omega arith, omega (arith, p .2))
 
-  pub said-load : (k : ℕ) → k ≡ v - 1 → (x u : Saved) → SameSplits st x → x .height ≡ st .height + 1 → stackIn x ≡ stackIn st ++ (getD (stackIn st) k 0 ∷ []) → u .visited ≡ false
+  pub said-load : (k : ℕ) → k ≡ v - 1 → (x u : Saved) → SameSplits st x → x .height ≡ st .height + 1 → stackIn x ≡ stackIn st
+      ++ (getD (stackIn st) k 0 ∷ []) → u .visited ≡ false
       → StepSays file g i st (record { checked = checked.Right; next = x; near = i + 1; other = u; far = 0; on = i + 1 })
   said-load k e x u q h s off =
       let w = a .function .walking in let t = a .function .there in
@@ -124,7 +141,9 @@ module _ {file : List ℕ} {n : ℕ} {ts : Tables} {g i : ℕ} {st : Saved} {v :
       let r = load-saved (programIn file) g (functionIn file g) st (a .fit .right) i k x (omega (arith, b .0, b .1)) (b .2) q h s in
       let on = q .visited ∙ a .visited in
       said-right refl
-      (λ arrows f. goes a ((suc i, shapeIn (arity (functionIn file g)) x) ∷ []) (ap (λ (j : ℕ). shapeFrom (programIn file) g (functionIn file g) i (Load j) (shapeIn (arity (functionIn file g)) st)) is ∙ r .0) arrows f ∙ rw (on, off, add-one i))
+      (λ arrows f. goes a ((suc i, shapeIn (arity (functionIn file g)) x) ∷ [])
+      (ap (λ (j : ℕ). shapeFrom (programIn file) g (functionIn file g) i (Load j) (shapeIn (arity (functionIn file g)) st)) is ∙ r .0)
+      arrows f ∙ rw (on, off, add-one i))
       (record {
         on = omega arith;
         near = rw on;
@@ -135,8 +154,8 @@ module _ {file : List ℕ} {n : ℕ} {ts : Tables} {g i : ℕ} {st : Saved} {v :
 
 ---- A first build or call
 
-module _ {file : List ℕ} {n : ℕ} {ts : Tables} {g : ℕ} {r : Routine} {i : ℕ} {st : Saved} (a : LineMoveAsks file n ts g r i st) where
-  pub line-move-asks : LineAsks file n ts g r i st
+module _ {file : List ℕ} {ts : NameTables} {g : ℕ} {r : Routine} {i : ℕ} {st : Saved} (a : LineMoveAsks file ts g r i st) where
+  pub line-move-asks : LineAsks file ts g r i st
   line-move-asks = record {
     walking = a .move .function .walking;
     there = a .move .function .there;
@@ -164,20 +183,22 @@ split-at s [] j h r = absurd (omega arith)
 split-at s (p ∷ ps) zero h r = r .0
 split-at s (p ∷ ps) (suc j) h r = split-at s ps j (omega arith) (r .1)
 
-numbered-fits : (ps : List Split) (n count j : ℕ) → j < length ps → Numbered n ps count → getD ps j noSplit .first + getD ps j noSplit .parts ≤ count
+numbered-fits : (ps : List Split) (n count j : ℕ) → j < length ps → Numbered n ps count
+    → getD ps j noSplit .first + getD ps j noSplit .parts ≤ count
 numbered-fits [] n count j h r = absurd (omega arith)
 numbered-fits (p ∷ ps) n count zero h r = omega (arith, r .1, numbered-le ps (n + p .parts) count (r .2))
 numbered-fits (p ∷ ps) n count (suc j) h r = numbered-fits ps (n + p .parts) count j (omega arith) (r .2)
 
 -- the same arrows, in the slots of the code
 same-arrows : (v w : Bool) (i b near far : ℕ) (x y : Shape) → near ≡ (if v then i + 1 else 0) → far ≡ (if w then b else 0)
-    → given {A = Arrow Shape} v (suc i, x) (given {A = Arrow Shape} w (b, y) []) ≡ given {A = Arrow Shape} v (near, x) (given {A = Arrow Shape} w (far, y) [])
+    → given {A = Arrow Shape} v (suc i, x) (given {A = Arrow Shape} w (b, y) [])
+    ≡ given {A = Arrow Shape} v (near, x) (given {A = Arrow Shape} w (far, y) [])
 same-arrows true true i b near far x y e f = rw (e, f, add-one i)
 same-arrows true false i b near far x y e f = rw (e, add-one i)
 same-arrows false true i b near far x y e f = rw f
 same-arrows false false i b near far x y e f = refl
 
-module _ {file : List ℕ} {n : ℕ} {ts : Tables} {g i : ℕ} {st : Saved} {c b : ℕ} (a : MoveAsks file n ts g i st (Branch c b)) where
+module _ {file : List ℕ} {ts : NameTables} {g i : ℕ} {st : Saved} {c b : ℕ} (a : MoveAsks file ts g i st (Branch c b)) where
   reached : Branches (programIn file) g (functionIn file g) i (st .height) c b
   reached = at-branch (a .function .walking) (a .function .there) (a .fit .at) c b (a .is) .1
 
@@ -214,10 +235,13 @@ module _ {file : List ℕ} {n : ℕ} {ts : Tables} {g i : ℕ} {st : Saved} {c b
           list = r .list;
           count = r .path .few;
           each = λ j h e.
-              let s = rw (getD-take (st .taken) (st .list) j noSplit h) at (split-at (programIn file) (splitsIn st) j (omega arith) (r .path .right)) in
-              let l = rw (getD-take (st .taken) (st .list) j noSplit h) at (numbered-fits (splitsIn st) (arity (functionIn file g)) (st .count) j (omega arith) (r .path .numbered)) in
+              let s = rw (getD-take (st .taken) (st .list) j noSplit h)
+              at (split-at (programIn file) (splitsIn st) j (omega arith) (r .path .right)) in
+              let l = rw (getD-take (st .taken) (st .list) j noSplit h)
+              at (numbered-fits (splitsIn st) (arity (functionIn file g)) (st .count) j (omega arith) (r .path .numbered)) in
               let same : s .declared-as ≡ y .kind = some-inj (sym (s .known) ∙ ap (constructor (programIn file)) e ∙ y .known) in
-              let q : getD (st .list) j noSplit .parts ≡ getD row 1 0 = sym (s .arity) ∙ ap (λ (x : Constructor). length (x .arguments)) same ∙ sym p in
+              let q : getD (st .list) j noSplit .parts ≡ getD row 1 0 = sym (s .arity)
+              ∙ ap (λ (x : Constructor). length (x .arguments)) same ∙ sym p in
               let m = r .path .few in
               (q, omega arith);
         }
@@ -225,19 +249,25 @@ module _ {file : List ℕ} {n : ℕ} {ts : Tables} {g i : ℕ} {st : Saved} {c b
     -- r: what leaves it
     module _ {r : Branched} (says : Branching st c (getD row 1 0) (getD row 6 0) r) where
       said : BranchSays (programIn file) g (functionIn file g) i b c (getD row 1 0) st r
-      said = says (programIn file) g (functionIn file g) i b (reached .kind) (a .fit .right) (a .visited) (reached .known) parts-is weight-is
+      said =
+          says (programIn file) g (functionIn file g) i b (reached .kind) (a .fit .right) (a .visited) (reached .known) parts-is weight-is
 
-      pub said-branch-large : {m : Moved} → r .large ≡ true → m .checked ≡ checked.Refused (TooManyForms (record { function = g; instruction = i })) → StepSays file g i st m
+      pub said-branch-large : {m : Moved} → r .large ≡ true
+          → m .checked ≡ checked.Refused (TooManyForms (record { function = g; instruction = i })) → StepSays file g i st m
       said-branch-large z e =
-          said-refused e (λ arrows f. outcome-refused (shapeRule (programIn file) g (functionIn file g)) (functionIn file g .code) i arrows (a .is) (shapeIn (arity (functionIn file g)) st) (refusal 9 g i) (arrives a arrows f) (rule a ∙ said .large z))
+          said-refused e (λ arrows f. outcome-refused (shapeRule (programIn file) g (functionIn file g)) (functionIn file g .code) i arrows
+          (a .is) (shapeIn (arity (functionIn file g)) st) (refusal 9 g i) (arrives a arrows f) (rule a ∙ said .large z))
 
-      pub said-branch : r .large ≡ false → (near far : ℕ) → near ≡ (if r .next .visited then i + 1 else 0) → far ≡ (if r .other .visited then b else 0)
+      pub said-branch : r .large ≡ false → (near far : ℕ) → near ≡ (if r .next .visited then i + 1 else 0)
+          → far ≡ (if r .other .visited then b else 0)
           → StepSays file g i st (record { checked = checked.Right; next = r .next; near = near; other = r .other; far = far; on = i + 1 })
       said-branch z near far e f =
           let y = reached in
           said-right refl
           (λ arrows q. goes a (arrowsOf (arity (functionIn file g)) i b r) (said .goes z) arrows q
-          ∙ ap (λ (l : List (Arrow Shape)). leftFrom (programIn file) g (functionIn file g) (i + 1) (l ++ arrows)) (same-arrows (r .next .visited) (r .other .visited) i b near far (shapeIn (arity (functionIn file g)) (r .next)) (shapeIn (arity (functionIn file g)) (r .other)) e f))
+          ∙ ap (λ (l : List (Arrow Shape)). leftFrom (programIn file) g (functionIn file g) (i + 1) (l ++ arrows))
+          (same-arrows (r .next .visited) (r .other .visited) i b near far (shapeIn (arity (functionIn file g)) (r .next))
+          (shapeIn (arity (functionIn file g)) (r .other)) e f))
           (record {
             on = omega arith;
             near = e;

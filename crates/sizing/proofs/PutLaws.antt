@@ -2,7 +2,7 @@
 use mathlib.Core.Path.{_≡_, refl, sym, ap, _∙_}
 use mathlib.Core.List.{List, [], _∷_}
 use mathlib.Core.Bool.{Bool, true, false}
-use Prim.Native.Nat.{ℕ, zero, suc, _+_, _*_, _-_, _≤_, _<_, zero-le}
+use Prim.Native.Nat.{ℕ, zero, suc, _+_, _*_, _≤_, _<_, zero-le}
 use native.Mathlib.Omega.{arith}
 use native.Mathlib.Nat.{add-mul, mul-add, mul-assoc}
 use lib.ListN.{length, getD, set, replicate, length-set}
@@ -22,7 +22,7 @@ plus-length [] (y ∷ ys) m h = absurd (omega arith)
 plus-length (x ∷ xs) [] m h = refl
 plus-length (x ∷ xs) (y ∷ ys) m h = ap suc (plus-length xs ys m (omega arith))
 
-pub plus-at : (xs ys : List ℕ) (m i : ℕ) → length ys ≤ length xs → getD (plusTimes xs m ys) i 0 ≡ getD xs i 0 + m * getD ys i 0
+plus-at : (xs ys : List ℕ) (m i : ℕ) → length ys ≤ length xs → getD (plusTimes xs m ys) i 0 ≡ getD xs i 0 + m * getD ys i 0
 unfolding plusTimes
 plus-at [] [] m i h = omega arith
 plus-at [] (y ∷ ys) m i h = absurd (omega arith)
@@ -30,7 +30,8 @@ plus-at (x ∷ xs) [] m i h = omega arith
 plus-at (x ∷ xs) (y ∷ ys) m zero h = refl
 plus-at (x ∷ xs) (y ∷ ys) m (suc i) h = plus-at xs ys m i (omega arith)
 
-pub alternative-ext : (a b : Alternative) → Wide a → Wide b → ((i : ℕ) → coefficient a i ≡ coefficient b i) → a .constant ≡ b .constant → a ≡ b
+pub alternative-ext : (a b : Alternative) → Wide a → Wide b → ((i : ℕ) → coefficient a i ≡ coefficient b i) → a .constant ≡ b .constant
+    → a ≡ b
 alternative-ext a b p q h k =
     let e : a .coefficients ≡ b .coefficients = ext-getD 0 (a .coefficients) (b .coefficients) (p ∙ sym q) (λ i _. h i) in
     λ x. record { coefficients = e x; constant = k x }
@@ -72,7 +73,8 @@ pub put-wide : (k : ℕ) (m a : Alternative) → Wide m → Wide a → Wide (put
 unfolding put
 put-wide k m a q p = added-wide (coefficient a k) m (cleared k a) q (cleared-wide k a p)
 
-pub put-at : (k : ℕ) (m a : Alternative) (i : ℕ) → Wide m → Wide a → coefficient (put k m a) i ≡ coefficient (cleared k a) i + coefficient a k * coefficient m i
+pub put-at : (k : ℕ) (m a : Alternative) (i : ℕ) → Wide m → Wide a
+    → coefficient (put k m a) i ≡ coefficient (cleared k a) i + coefficient a k * coefficient m i
 unfolding put
 put-at k m a i q p = added-at (coefficient a k) m (cleared k a) i (cleared-wide k a p) q
 
@@ -81,7 +83,8 @@ unfolding put added
 put-constant k m a = refl
 
 -- cleared is linear as well
-cleared-added : (k c : ℕ) (b a : Alternative) (i : ℕ) → Wide a → Wide b → coefficient (cleared k (added c b a)) i ≡ coefficient (cleared k a) i + c * coefficient (cleared k b) i
+cleared-added : (k c : ℕ) (b a : Alternative) (i : ℕ) → Wide a → Wide b
+    → coefficient (cleared k (added c b a)) i ≡ coefficient (cleared k a) i + c * coefficient (cleared k b) i
 cleared-added k c b a i p q = go (eqb i k) refl
   where
     go : (t : Bool) → eqb i k ≡ t → coefficient (cleared k (added c b a)) i ≡ coefficient (cleared k a) i + c * coefficient (cleared k b) i
@@ -93,22 +96,39 @@ cleared-added k c b a i p q = go (eqb i k) refl
 spread-out : (a b c m ai bi : ℕ) → ai + c * bi + (a + c * b) * m ≡ ai + a * m + c * (bi + b * m)
 spread-out a b c m ai bi = simp (add-mul, mul-add, mul-assoc) (omega arith)
 
-pub put-added : (k : ℕ) (m : Alternative) (c : ℕ) (b a : Alternative) → Wide m → Wide a → Wide b → put k m (added c b a) ≡ added c (put k m b) (put k m a)
+pub put-added : (k : ℕ) (m : Alternative) (c : ℕ) (b a : Alternative) → Wide m → Wide a → Wide b
+    → put k m (added c b a) ≡ added c (put k m b) (put k m a)
 put-added k m c b a w p q =
-    alternative-ext (put k m (added c b a)) (added c (put k m b) (put k m a)) (put-wide k m (added c b a) w (added-wide c b a q p)) (added-wide c (put k m b) (put k m a) (put-wide k m b w q) (put-wide k m a w p))
-    (λ i. put-at k m (added c b a) i w (added-wide c b a q p) ∙ left i ∙ sym (added-at c (put k m b) (put k m a) i (put-wide k m a w p) (put-wide k m b w q) ∙ right i))
+    alternative-ext (put k m (added c b a)) (added c (put k m b) (put k m a)) (put-wide k m (added c b a) w (added-wide c b a q p))
+    (added-wide c (put k m b) (put k m a) (put-wide k m b w q) (put-wide k m a w p))
+    (λ i. put-at k m (added c b a) i w (added-wide c b a q p) ∙ left i
+    ∙ sym (added-at c (put k m b) (put k m a) i (put-wide k m a w p) (put-wide k m b w q) ∙ right i))
     constants
   where
     left : (i : ℕ) → coefficient (cleared k (added c b a)) i + coefficient (added c b a) k * coefficient m i
-        ≡ coefficient (cleared k a) i + coefficient a k * coefficient m i + c * (coefficient (cleared k b) i + coefficient b k * coefficient m i)
-    left i = rw (cleared-added k c b a i p q, added-at c b a k p q) (spread-out (coefficient a k) (coefficient b k) c (coefficient m i) (coefficient (cleared k a) i) (coefficient (cleared k b) i))
+        ≡ coefficient (cleared k a) i + coefficient a k * coefficient m
+        i + c * (coefficient (cleared k b) i + coefficient b k * coefficient m i)
+    left i =
+        rw (cleared-added k c b a i p q, added-at c b a k p q)
+        (spread-out (coefficient a k) (coefficient b k) c (coefficient m i) (coefficient (cleared k a) i) (coefficient (cleared k b) i))
 
     right : (i : ℕ) → coefficient (put k m a) i + c * coefficient (put k m b) i
-        ≡ coefficient (cleared k a) i + coefficient a k * coefficient m i + c * (coefficient (cleared k b) i + coefficient b k * coefficient m i)
+        ≡ coefficient (cleared k a) i + coefficient a k * coefficient m
+        i + c * (coefficient (cleared k b) i + coefficient b k * coefficient m i)
     right i = rw (put-at k m a i w p, put-at k m b i w q)
 
     constants : put k m (added c b a) .constant ≡ added c (put k m b) (put k m a) .constant
-    constants = rw (put-constant k m (added c b a), added-constant c b a, added-constant c (put k m b) (put k m a), put-constant k m a, put-constant k m b, added-at c b a k p q) (spread-out (coefficient a k) (coefficient b k) c (m .constant) (a .constant) (b .constant))
+    constants =
+        rw (
+          put-constant k m (added c b a),
+          added-constant c b a,
+          added-constant c (put k m b) (put k m
+              a),
+          put-constant k m a,
+          put-constant k m b,
+          added-at c b a k p q,
+        )
+        (spread-out (coefficient a k) (coefficient b k) c (m .constant) (a .constant) (b .constant))
 
 pub constant-wide : (w : ℕ) → Wide (constantOnly w)
 unfolding constantOnly
@@ -126,7 +146,8 @@ constant-at w i = zero-at 16 i
 -- no variable k, no change
 pub put-absent : (k : ℕ) (m a : Alternative) → Wide m → Wide a → coefficient a k ≡ 0 → put k m a ≡ a
 put-absent k m a w p z =
-    alternative-ext (put k m a) a (put-wide k m a w p) p (λ i. put-at k m a i w p ∙ go i (eqb i k) refl) (put-constant k m a ∙ rw z (omega arith))
+    alternative-ext (put k m a) a (put-wide k m a w p) p (λ i. put-at k m a i w p ∙ go i (eqb i k) refl)
+    (put-constant k m a ∙ rw z (omega arith))
   where
     go : (i : ℕ) (t : Bool) → eqb i k ≡ t → coefficient (cleared k a) i + coefficient a k * coefficient m i ≡ coefficient a i
     go i true e = rw (eqb-true i k e, cleared-same k a, z) (omega arith)

@@ -3,7 +3,7 @@ use mathlib.Core.Path.{_≡_, sym, ap, _∙_}
 use mathlib.Core.List.{List}
 use mathlib.Core.Option.{some}
 use mathlib.Core.Bool.{Bool, true, false}
-use Prim.Native.Nat.{ℕ, suc, _+_, _*_, _-_, _≤_, _<_}
+use Prim.Native.Nat.{ℕ, suc, _+_, _-_, _≤_, _<_}
 use native.Mathlib.Omega.{arith}
 use lib.ListN.{length}
 use Rattle.rules.specs.declared.records.Instruction.{Instruction}
@@ -11,53 +11,76 @@ use Rattle.rules.specs.declared.records.Instruction.the-variants.{Load, Build, 
 use Rattle.rules.specs.Base.{byteAt}
 use Rattle.rules.specs.Container.{payload}
 use Rattle.rules.specs.Program.{Constructor, Function, arity, constructor, function}
-use Rattle.rules.specs.Records.{instructionAt, codeOffset, headOffset, instructionOf}
+use Rattle.rules.specs.Records.{instructionAt, codeOffset, headOffset, instructionOf, programIn, functionIn, instructionOffset}
 use Rattle.rules.specs.Stacks.{slot}
-use Rattle.sizing.specs.Chart.{At}
-use Rattle.sizing.specs.Routines.{Tables, OperandThere}
-use Rattle.sizing.specs.Walking.{programIn, functionIn, Walking}
+use Rattle.sizing.specs.Chart.{ReachedAt}
+use Rattle.sizing.specs.Routines.{NameTables, OperandThere}
+use Rattle.sizing.specs.Walking.{Walking}
 use Rattle.sizing.proofs.ChartLaws as chart
 use Rattle.sizing.proofs.ChartLaws.{Branches}
-use Rattle.sizing.proofs.FileLaws.{constructor-named, function-named, here, few-parameters, code-length, some-code, code-at, flow-found, types-found}
+use Rattle.sizing.proofs.FileLaws.{constructor-named, function-named, here, few-parameters, code-length, some-code, code-at}
+use Rattle.sizing.proofs.FileLaws.{flow-found, types-found}
 
-module _ {file : List ℕ} {n : ℕ} {ts : Tables} (w : Walking file n ts) {g : ℕ} (t : g < byteAt (payload file) 3) where
-  pub at-start : At (programIn file) g (functionIn file g) 1 (arity (functionIn file g)) false
-  at-start = chart.at-start (programIn file) g (functionIn file g) (flow-found w g t .1) (types-found w g t .1) (few-parameters w g t) (some-code w g t)
+module _ {file : List ℕ} {ts : NameTables} (w : Walking file ts) {g : ℕ} (t : g < byteAt (payload file) 3) where
+  pub at-start : ReachedAt (programIn file) g (functionIn file g) 1 (arity (functionIn file g)) false
+  at-start =
+      chart.at-start (programIn file) g (functionIn file g) (flow-found w g t .1) (types-found w g t .1) (few-parameters w g t)
+      (some-code w g t)
 
-  module _ {i h : ℕ} {p : Bool} (y : At (programIn file) g (functionIn file g) i h p) where
+  module _ {i h : ℕ} {p : Bool} (y : ReachedAt (programIn file) g (functionIn file g) i h p) where
     pub at-low : h ≤ 16
-    at-low = chart.at-low (programIn file) g (functionIn file g) (flow-found w g t .1) (types-found w g t .1) (few-parameters w g t) (some-code w g t) i h p y
+    at-low =
+        chart.at-low (programIn file) g (functionIn file g) (flow-found w g t .1) (types-found w g t .1) (few-parameters w g t)
+        (some-code w g t) i h p y
 
     at-there : (1 ≤ i) × (i ≤ length (functionIn file g .code))
-    at-there = chart.at-there (programIn file) g (functionIn file g) (flow-found w g t .1) (types-found w g t .1) (few-parameters w g t) (some-code w g t) i h p y
+    at-there =
+        chart.at-there (programIn file) g (functionIn file g) (flow-found w g t .1) (types-found w g t .1) (few-parameters w g t)
+        (some-code w g t) i h p y
 
     -- where it stands, if the code starts at base
-    pub at-place : (base : ℕ) → base ≡ codeOffset (payload file) (headOffset (payload file) g) → (1 ≤ i) × (i ≤ length (functionIn file g .code)) × (i ≤ 256) × (base + 4 * (i - 1) + 4 ≤ n)
+    pub at-place : (base : ℕ) → base ≡ codeOffset (payload file) (headOffset (payload file) g) → (1 ≤ i)
+        × (i ≤ length (functionIn file g .code)) × (i ≤ 256) × (instructionOffset base (i - 1) + 4 ≤ length (payload file))
     at-place base e =
         let c = code-at w g t i (at-there .0) (at-there .1) in
         (at-there .0, at-there .1, omega (arith, at-there .1, code-length w g t, here w g t .short-code), omega (arith, c .1))
 
-    pub at-instruction : (base : ℕ) → base ≡ codeOffset (payload file) (headOffset (payload file) g) → (ins : Instruction) → ins ≡ instructionOf (instructionAt (payload file) (base + 4 * (i - 1))) → slot i (functionIn file g .code) ≡ some ins
-    at-instruction base e ins is =
-        code-at w g t i (at-there .0) (at-there .1) .0 ∙ ap some (sym (is ∙ ap (λ (b : ℕ). instructionOf (instructionAt (payload file) (b + 4 * (i - 1)))) e))
+    pub at-instruction : (base : ℕ) → base ≡ codeOffset (payload file) (headOffset (payload file) g) → {x : ℕ}
+        → x ≡ instructionOffset base (i - 1)
+        → (ins : Instruction) → ins ≡ instructionOf (instructionAt (payload file) x) → slot i (functionIn file g .code) ≡ some ins
+    at-instruction base e q ins is =
+        code-at w g t i (at-there .0) (at-there .1) .0
+        ∙ ap some (sym (is ∙ ap (λ (x : ℕ). instructionOf (instructionAt (payload file) x))
+        (q ∙ ap (λ (b : ℕ). instructionOffset b (i - 1)) e)))
 
     pub at-some : (ins : Instruction) × (slot i (functionIn file g .code) ≡ some ins)
     at-some = (_, code-at w g t i (at-there .0) (at-there .1) .0)
 
-    pub at-load : (a : ℕ) → slot i (functionIn file g .code) ≡ some (Load a) → (1 ≤ a) × (a ≤ h) × At (programIn file) g (functionIn file g) (suc i) (h + 1) p
-    at-load a e = chart.at-load (programIn file) g (functionIn file g) (flow-found w g t .1) (types-found w g t .1) (few-parameters w g t) (some-code w g t) i h p a y e
+    pub at-load : (a : ℕ) → slot i (functionIn file g .code) ≡ some (Load a) → (1 ≤ a) × (a ≤ h)
+        × ReachedAt (programIn file) g (functionIn file g) (suc i) (h + 1) p
+    at-load a e =
+        chart.at-load (programIn file) g (functionIn file g) (flow-found w g t .1) (types-found w g t .1) (few-parameters w g t)
+        (some-code w g t) i h p a y e
 
     pub at-build : (c : ℕ) → slot i (functionIn file g .code) ≡ some (Build c)
-        → (k : Constructor) × (constructor (programIn file) c ≡ some k) × (length (k .arguments) ≤ h) × At (programIn file) g (functionIn file g) (suc i) (h - length (k .arguments) + 1) true
-    at-build c e = chart.at-build (programIn file) g (functionIn file g) (flow-found w g t .1) (types-found w g t .1) (few-parameters w g t) (some-code w g t) i h p c y e
+        → (k : Constructor) × (constructor (programIn file) c ≡ some k) × (length (k .arguments) ≤ h)
+        × ReachedAt (programIn file) g (functionIn file g) (suc i) (h - length (k .arguments) + 1) true
+    at-build c e =
+        chart.at-build (programIn file) g (functionIn file g) (flow-found w g t .1) (types-found w g t .1) (few-parameters w g t)
+        (some-code w g t) i h p c y e
 
     pub at-call : (c : ℕ) → slot i (functionIn file g .code) ≡ some (Call c)
-        → (k : Function) × (function (programIn file) c ≡ some k) × (arity k ≤ h) × At (programIn file) g (functionIn file g) (suc i) (h - arity k + 1) true
-    at-call c e = chart.at-call (programIn file) g (functionIn file g) (flow-found w g t .1) (types-found w g t .1) (few-parameters w g t) (some-code w g t) i h p c y e
+        → (k : Function) × (function (programIn file) c ≡ some k) × (arity k ≤ h)
+        × ReachedAt (programIn file) g (functionIn file g) (suc i) (h - arity k + 1) true
+    at-call c e =
+        chart.at-call (programIn file) g (functionIn file g) (flow-found w g t .1) (types-found w g t .1) (few-parameters w g t)
+        (some-code w g t) i h p c y e
 
     pub at-branch : (c b : ℕ) → slot i (functionIn file g .code) ≡ some (Branch c b)
         → (p ≡ false) × Branches (programIn file) g (functionIn file g) i h c b
-    at-branch c b e = chart.at-branch (programIn file) g (functionIn file g) (flow-found w g t .1) (types-found w g t .1) (few-parameters w g t) (some-code w g t) i h p c b y e
+    at-branch c b e =
+        chart.at-branch (programIn file) g (functionIn file g) (flow-found w g t .1) (types-found w g t .1) (few-parameters w g t)
+        (some-code w g t) i h p c b y e
 
     -- what an instruction names is there
     pub operand-there : (ins : Instruction) → slot i (functionIn file g .code) ≡ some ins → OperandThere (payload file) ins

@@ -11,19 +11,19 @@ use Rattle.tables.specs.Tables.{alternativeIn}
 use Rattle.tables.proofs.TableLaws.{byte-small}
 use Rattle.sizing.specs.declared.forms.Bound.{Bound}
 use Rattle.sizing.specs.declared.routines.Maker.{Maker}
-use Rattle.sizing.specs.Routines.{Tables, BoundAsks, BoundOf, BoundIs, RoutineIs, BuildIs, Records, buildMaker}
+use Rattle.sizing.specs.Routines.{NameTables, BoundAsks, BoundOf, BoundIs, RoutineIs, BuildIs, Records, buildMaker}
 
-module _ {file : List ℕ} {n : ℕ} {ts : Tables} (r : Records file n ts) where
+module _ {file : List ℕ} {ts : NameTables} (r : Records file ts) where
   small : (k : ℕ) → byteAt (payload file) k < 256
-  small = byte-small (r .opened) (r .bytes)
+  small = byte-small (r .verified) (r .bytes)
 
   ---- A constructor
 
   module _ (c : ℕ) (l : c < byteAt (payload file) 2) where
-    pub row-arity : getD (getD (ts .constructors) c []) 1 0 ≡ byteAt (payload file) (constructorOffset c + 1)
+    row-arity : getD (getD (ts .constructors) c []) 1 0 ≡ byteAt (payload file) (constructorOffset c + 1)
     row-arity = ap (λ (x : List ℕ). getD x 1 0) (r .constructor .row c l)
 
-    pub row-weight : getD (getD (ts .constructors) c []) 6 0 ≡ byteAt (payload file) (constructorOffset c + 6)
+    row-weight : getD (getD (ts .constructors) c []) 6 0 ≡ byteAt (payload file) (constructorOffset c + 6)
     row-weight = ap (λ (x : List ℕ). getD x 6 0) (r .constructor .row c l)
 
     pub arity-small : getD (getD (ts .constructors) c []) 1 0 < 256
@@ -44,7 +44,7 @@ module _ {file : List ℕ} {n : ℕ} {ts : Tables} (r : Records file n ts) where
   ---- A function
 
   module _ (g : ℕ) (l : g < byteAt (payload file) 3) where
-    pub row-count : getD (getD (ts .functions) g []) 6 0 ≡ byteAt (payload file) (headOffset (payload file) g + 6)
+    row-count : getD (getD (ts .functions) g []) 6 0 ≡ byteAt (payload file) (headOffset (payload file) g + 6)
     row-count = ap (λ (x : List ℕ). getD x 6 0) (r .function .row g l)
 
     pub bound-asks : BoundAsks (ts .alternatives) g
@@ -53,7 +53,8 @@ module _ {file : List ℕ} {n : ℕ} {ts : Tables} (r : Records file n ts) where
       small = r .alternative .small;
     }
 
-    pub routine-bound : {count : ℕ} {b : Bound} → count ≡ getD (getD (ts .functions) g []) 6 0 → BoundOf (ts .alternatives) g count b → BoundIs (payload file) (headOffset (payload file) g) (byteAt (payload file) (headOffset (payload file) g + 6)) b
+    routine-bound : {count : ℕ} {b : Bound} → count ≡ getD (getD (ts .functions) g []) 6 0 → BoundOf (ts .alternatives) g count b
+        → BoundIs (payload file) (headOffset (payload file) g) (byteAt (payload file) (headOffset (payload file) g + 6)) b
     routine-bound e b = record {
       count-is = b .count-is ∙ e ∙ row-count;
       long = b .long;
@@ -61,7 +62,12 @@ module _ {file : List ℕ} {n : ℕ} {ts : Tables} (r : Records file n ts) where
     }
 
     pub routine-is : {count : ℕ} {b : Bound} → count ≡ getD (getD (ts .functions) g []) 6 0 → BoundOf (ts .alternatives) g count b
-        → RoutineIs (payload file) (headOffset (payload file) g) (record { arity = getD (getD (ts .functions) g []) 1 0; bound = b; base = getD (getD (ts .functions) g []) 7 0; last = getD (getD (ts .functions) g []) 8 0 })
+        → RoutineIs (payload file) (headOffset (payload file) g) (record {
+          arity = getD (getD (ts .functions) g []) 1 0;
+          bound = b;
+          base = getD (getD (ts .functions) g []) 7 0;
+          last = getD (getD (ts .functions) g []) 8 0;
+        })
     routine-is e b = record {
       arity = ap (λ (x : List ℕ). getD x 1 0) (r .function .row g l);
       bound = routine-bound e b;
@@ -69,7 +75,8 @@ module _ {file : List ℕ} {n : ℕ} {ts : Tables} (r : Records file n ts) where
       last = ap (λ (x : List ℕ). getD x 8 0) (r .function .row g l);
     }
 
-    pub row-fits : (getD (getD (ts .functions) g []) 1 0 ≤ 4) × (getD (getD (ts .functions) g []) 7 0 ≤ 40000) × (getD (getD (ts .functions) g []) 8 0 ≤ 256)
+    pub row-fits : (getD (getD (ts .functions) g []) 1 0 ≤ 4) × (getD (getD (ts .functions) g []) 7 0 ≤ 40000)
+        × (getD (getD (ts .functions) g []) 8 0 ≤ 256)
     row-fits =
         let t = r .there .function g l in
-        rw (r .function .row g l) (t .arity, omega (arith, t .head, t .few-alternatives, r .opened .long, r .opened .small), t .short-code)
+        rw (r .function .row g l) (t .arity, omega (arith, t .head, t .few-alternatives, r .verified .small), t .short-code)

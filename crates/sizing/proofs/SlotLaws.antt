@@ -2,7 +2,7 @@
 use mathlib.Core.Path.{_≡_, refl, sym, ap, _∙_}
 use mathlib.Core.List.{List, [], _∷_, _++_, map, map-id}
 use mathlib.Core.Bool.{Bool, true, false}
-use Prim.Native.Nat.{ℕ, zero, suc, _+_, _-_, _≤_, _<_}
+use Prim.Native.Nat.{ℕ, zero, suc, _+_, _≤_, _<_}
 use native.Mathlib.Omega.{arith}
 use native.Mathlib.Nat.{le-trans}
 use lib.ListN.{length, getD, set, take, replicate, length-set, length-replicate, getD-replicate}
@@ -15,7 +15,7 @@ use Rattle.rules.specs.declared.answers.Reason.{Reason}
 use Rattle.rules.specs.Base.{refused, passed, only}
 use Rattle.rules.specs.Container.{payload}
 use Rattle.rules.specs.Program.{Function, arity}
-use Rattle.rules.specs.Records.{headOffset}
+use Rattle.rules.specs.Records.{headOffset, programIn, functionIn}
 use Rattle.rules.specs.Walk.{Arrow, arriving, visited, first}
 use Rattle.rules.specs.Expressions.{variables}
 use Rattle.rules.specs.Shapes.{Shape, shapeRule, startShape, shapesOf}
@@ -28,8 +28,7 @@ use Rattle.sizing.specs.Splits.{variableE, through}
 use Rattle.sizing.specs.Right.{shapeIn, AllUnder}
 use Rattle.sizing.specs.Steps.{given}
 use Rattle.sizing.specs.Left.{outcome, leftFrom}
-use Rattle.sizing.specs.Routines.{Tables, RoutineIs}
-use Rattle.sizing.specs.Walking.{programIn, functionIn}
+use Rattle.sizing.specs.Routines.{NameTables, RoutineIs}
 use Rattle.sizing.specs.Moves.{StartIs, Fit, FunctionAsks, StepAsks, standing, leaving, moveLeft, Lands, StepSays}
 use Rattle.sizing.proofs.WalkLaws.{first-put, outcome-end}
 use Rattle.sizing.proofs.ReachLaws.{at-start}
@@ -37,21 +36,22 @@ use Rattle.sizing.proofs.FileLaws.{few-parameters, arity-is, code-lengt
 use Rattle.sizing.proofs.ConvertLaws.{rows-fit}
 use Rattle.sizing.proofs.StartLaws.{path-start}
 
-abbrev pub noSaved : Saved
+abbrev noSaved : Saved
 noSaved = record { visited = false; height = 0; count = 0; stack = []; taken = 0; list = [] }
 
 ---- One slot
 
 module _ (file : List ℕ) (g : ℕ) where
   -- what arrives first at each instruction from i on stands in its slot, and is right
-  pub record Standing (saved : List Saved) (arrows : List (Arrow Shape)) (i : ℕ) : Type 0 where
+  pub record SlotsStand (saved : List Saved) (arrows : List (Arrow Shape)) (i : ℕ) : Type 0 where
     pub long : length saved ≡ 258
     pub stands : (k : ℕ) → i ≤ k → k < 258 → first (arriving k arrows) ≡ standing (arity (functionIn file g)) (getD saved k noSaved)
     pub fits : (k : ℕ) → i ≤ k → k < 258 → getD saved k noSaved .visited ≡ true → Fit file g k (getD saved k noSaved)
 
   -- a state in slot t, and an arrow there where it is visited; 0 is the slot of those that are not
-  put-slot : (saved : List Saved) (arrows : List (Arrow Shape)) (i t : ℕ) (x : Saved) (v : Bool) → x .visited ≡ v → (v ≡ false → t ≡ 0) → (v ≡ true → Fit file g t x) → t < 258 → 1 ≤ i
-      → Standing saved arrows i → Standing (set saved t x) (given v (t, shapeIn (arity (functionIn file g)) x) arrows) i
+  put-slot : (saved : List Saved) (arrows : List (Arrow Shape)) (i t : ℕ) (x : Saved) (v : Bool) → x .visited ≡ v → (v ≡ false → t ≡ 0)
+      → (v ≡ true → Fit file g t x) → t < 258 → 1 ≤ i
+      → SlotsStand saved arrows i → SlotsStand (set saved t x) (given v (t, shapeIn (arity (functionIn file g)) x) arrows) i
   put-slot saved arrows i t x v e off on l p s = record {
     long = length-set saved t x ∙ s .long;
     stands = λ k h b. at k h b (eqb k t) refl v e off;
@@ -59,7 +59,8 @@ module _ (file : List ℕ) (g : ℕ) where
   }
     where
       at : (k : ℕ) → i ≤ k → k < 258 → (q : Bool) → eqb k t ≡ q → (v : Bool) → x .visited ≡ v → (v ≡ false → t ≡ 0)
-          → first (arriving k (given v (t, shapeIn (arity (functionIn file g)) x) arrows)) ≡ standing (arity (functionIn file g)) (getD (set saved t x) k noSaved)
+          → first (arriving k (given v (t, shapeIn (arity (functionIn file g)) x) arrows))
+          ≡ standing (arity (functionIn file g)) (getD (set saved t x) k noSaved)
       at k h b true q true e off =
           let n = s .long in
           first-put k t (shapeIn (arity (functionIn file g)) x) arrows
@@ -69,18 +70,21 @@ module _ (file : List ℕ) (g : ℕ) where
           ∙ rw (q, getD-set-other saved t k x noSaved (eqb-false k t q)) (s .stands k h b)
       at k h b q z false e off = rw (getD-set-other saved t k x noSaved (λ y. let o = off refl in omega arith)) (s .stands k h b)
 
-      right : (k : ℕ) → i ≤ k → k < 258 → (q : Bool) → eqb k t ≡ q → getD (set saved t x) k noSaved .visited ≡ true → Fit file g k (getD (set saved t x) k noSaved)
+      right : (k : ℕ) → i ≤ k → k < 258 → (q : Bool) → eqb k t ≡ q → getD (set saved t x) k noSaved .visited ≡ true
+          → Fit file g k (getD (set saved t x) k noSaved)
       right k h b true q = let n = s .long in rw (eqb-true k t q, getD-set-same saved t x noSaved (omega arith)) (λ z. on (sym e ∙ z))
       right k h b false q = rw (getD-set-other saved t k x noSaved (eqb-false k t q)) (s .fits k h b)
 
-  given-append : (v w : Bool) (a b : Arrow Shape) (arrows : List (Arrow Shape)) → given v a (given w b []) ++ arrows ≡ given v a (given w b arrows)
+  given-append : (v w : Bool) (a b : Arrow Shape) (arrows : List (Arrow Shape)) → given v a (given w b [])
+      ++ arrows ≡ given v a (given w b arrows)
   given-append true true a b arrows = refl
   given-append true false a b arrows = refl
   given-append false true a b arrows = refl
   given-append false false a b arrows = refl
 
-  later : (saved : List Saved) (arrows : List (Arrow Shape)) (i j : ℕ) → i ≤ j → Standing saved arrows i → Standing saved arrows j
-  later saved arrows i j h s = record { long = s .long; stands = λ k l b. s .stands k (le-trans h l) b; fits = λ k l b. s .fits k (le-trans h l) b }
+  later : (saved : List Saved) (arrows : List (Arrow Shape)) (i j : ℕ) → i ≤ j → SlotsStand saved arrows i → SlotsStand saved arrows j
+  later saved arrows i j h s =
+      record { long = s .long; stands = λ k l b. s .stands k (le-trans h l) b; fits = λ k l b. s .fits k (le-trans h l) b }
 
   near-low : (i : ℕ) (m : Moved) → Lands file g i m → m .near < 258
   near-low i m l = one (m .next .visited) refl
@@ -97,10 +101,11 @@ module _ (file : List ℕ) (g : ℕ) where
       one false e = omega (arith, l .far e)
 
   -- both stores of a step
-  put-both : (saved : List Saved) (arrows : List (Arrow Shape)) (i : ℕ) (m : Moved) → 1 ≤ i → Lands file g i m → Standing saved arrows i
-      → Standing (set (set saved (m .near) (m .next)) (m .far) (m .other)) (leaving (arity (functionIn file g)) m ++ arrows) i
+  put-both : (saved : List Saved) (arrows : List (Arrow Shape)) (i : ℕ) (m : Moved) → 1 ≤ i → Lands file g i m → SlotsStand saved arrows i
+      → SlotsStand (set (set saved (m .near) (m .next)) (m .far) (m .other)) (leaving (arity (functionIn file g)) m ++ arrows) i
   put-both saved arrows i m p l s =
-      rw (given-append (m .next .visited) (m .other .visited) (m .near, shapeIn (arity (functionIn file g)) (m .next)) (m .far, shapeIn (arity (functionIn file g)) (m .other)) arrows)
+      rw (given-append (m .next .visited) (m .other .visited) (m .near, shapeIn (arity (functionIn file g)) (m .next))
+      (m .far, shapeIn (arity (functionIn file g)) (m .other)) arrows)
       (go (m .next .visited) refl (m .other .visited) refl)
     where
       near-off : m .next .visited ≡ false → m .near ≡ 0
@@ -114,24 +119,31 @@ module _ (file : List ℕ) (g : ℕ) where
 
       -- the far slot first
       swapped : (m .near ≡ m .far → ⊥) → (v w : Bool) → m .next .visited ≡ v → m .other .visited ≡ w
-          → Standing (set (set saved (m .near) (m .next)) (m .far) (m .other)) (given v (m .near, shapeIn (arity (functionIn file g)) (m .next)) (given w (m .far, shapeIn (arity (functionIn file g)) (m .other)) arrows)) i
+          → SlotsStand (set (set saved (m .near) (m .next)) (m .far) (m .other))
+          (given v (m .near, shapeIn (arity (functionIn file g)) (m .next))
+          (given w (m .far, shapeIn (arity (functionIn file g)) (m .other)) arrows)) i
       swapped d v w e f =
           rw (set-comm saved (m .near) (m .far) (m .next) (m .other) d)
-          (put-slot (set saved (m .far) (m .other)) (given w (m .far, shapeIn (arity (functionIn file g)) (m .other)) arrows) i (m .near) (m .next) v e (λ z. near-off (e ∙ z)) (λ z. near-fit (e ∙ z)) (near-low i m l) p
+          (put-slot (set saved (m .far) (m .other)) (given w (m .far, shapeIn (arity (functionIn file g)) (m .other)) arrows) i (m .near)
+          (m .next) v e (λ z. near-off (e ∙ z)) (λ z. near-fit (e ∙ z)) (near-low i m l) p
           (put-slot saved arrows i (m .far) (m .other) w f (λ z. l .far (f ∙ z)) (λ z. l .other (f ∙ z) .2) (far-low i m l) p s))
 
       go : (v : Bool) → m .next .visited ≡ v → (w : Bool) → m .other .visited ≡ w
-          → Standing (set (set saved (m .near) (m .next)) (m .far) (m .other)) (given v (m .near, shapeIn (arity (functionIn file g)) (m .next)) (given w (m .far, shapeIn (arity (functionIn file g)) (m .other)) arrows)) i
+          → SlotsStand (set (set saved (m .near) (m .next)) (m .far) (m .other))
+          (given v (m .near, shapeIn (arity (functionIn file g)) (m .next))
+          (given w (m .far, shapeIn (arity (functionIn file g)) (m .other)) arrows)) i
       go true e true f = swapped (λ z. omega (arith, near-is e, l .other f .0)) true true e f
       go true e false f = swapped (λ z. omega (arith, near-is e, l .far f)) true false e f
       go false e true f = swapped (λ z. omega (arith, near-off e, l .other f .0)) false true e f
       go false e false f =
-          put-slot (set saved (m .near) (m .next)) arrows i (m .far) (m .other) false f (λ z. l .far f) (λ z. absurd (false-true z)) (far-low i m l) p
+          put-slot (set saved (m .near) (m .next)) arrows i (m .far) (m .other) false f (λ z. l .far f) (λ z. absurd (false-true z))
+          (far-low i m l) p
           (put-slot saved arrows i (m .near) (m .next) false e (λ z. near-off e) (λ z. absurd (false-true z)) (near-low i m l) p s)
 
 ---- The start
 
-numbers-start : (n : ℕ) → n ≤ 4 → map (λ v. variableE v) (take n (0 ∷ 1 ∷ 2 ∷ 3 ∷ 4 ∷ 5 ∷ 6 ∷ 7 ∷ 8 ∷ 9 ∷ 10 ∷ 11 ∷ 12 ∷ 13 ∷ 14 ∷ 15 ∷ [])) ≡ variables 0 n
+numbers-start : (n : ℕ) → n ≤ 4 → map (λ v. variableE v) (take n (0 ∷ 1 ∷ 2 ∷ 3 ∷ 4 ∷ 5 ∷ 6 ∷ 7 ∷ 8 ∷ 9 ∷ 10 ∷ 11 ∷ 12 ∷ 13 ∷ 14 ∷ 15 ∷ []))
+    ≡ variables 0 n
 unfolding variables
 numbers-start zero h = refl
 numbers-start (suc zero) h = refl
@@ -155,7 +167,8 @@ start-shape f x h s =
     let p : map (through []) (variables 0 (arity f)) ≡ variables 0 (arity f) = map-id (variables 0 (arity f)) in
     rw (s .taken, s .count, s .height, s .stack) (λ k. record { parameters = p k; count = arity f; stack = numbers-start (arity f) h k })
 
-module _ {file : List ℕ} {n : ℕ} {ts : Tables} {g : ℕ} (a : FunctionAsks file n ts g) {r : Routine} (is : RoutineIs (payload file) (headOffset (payload file) g) r) where
+module _ {file : List ℕ} {ts : NameTables} {g : ℕ} (a : FunctionAsks file ts g) {r : Routine}
+    (is : RoutineIs (payload file) (headOffset (payload file) g) r) where
   pub routine-few : r .arity ≤ 4
   routine-few = omega (arith, is .arity, here (a .walking) g (a .there) .arity)
 
@@ -172,7 +185,8 @@ module _ {file : List ℕ} {n : ℕ} {ts : Tables} {g : ℕ} (a : FunctionAsks f
         right = record {
           path = rw (q .taken, q .count)
               (path-start (programIn file) (functionIn file g) (le-trans few (omega arith))
-              (rows-fit (arity (functionIn file g)) (r .bound) (rw (arity-is w g t) (own-bound w g t (r .bound) (is .bound))) (functionIn file g .bound) (rw (arity-is w g t) (bound-is w g t (r .bound) (is .bound))))
+              (rows-fit (arity (functionIn file g)) (r .bound) (rw (arity-is w g t) (own-bound w g t (r .bound) (is .bound)))
+              (functionIn file g .bound) (rw (arity-is w g t) (bound-is w g t (r .bound) (is .bound))))
               (parameter-counts w g t));
           under = rw (q .count, q .height, q .stack) (numbers-under (arity (functionIn file g)) few);
           high = rw (q .height) (le-trans few (omega arith));
@@ -183,7 +197,7 @@ module _ {file : List ℕ} {n : ℕ} {ts : Tables} {g : ℕ} (a : FunctionAsks f
         at = rw (q .height) (at-start w t);
       }
 
-no-slots : (file : List ℕ) (g : ℕ) (u : Saved) → u .visited ≡ false → Standing file g (replicate 258 u) [] 1
+no-slots : (file : List ℕ) (g : ℕ) (u : Saved) → u .visited ≡ false → SlotsStand file g (replicate 258 u) [] 1
 unfolding arriving
 no-slots file g u e = record {
   long = length-replicate 258 u;
@@ -198,9 +212,10 @@ pub record Slots (file : List ℕ) (g : ℕ) (saved : List Saved) (i : ℕ) : Ty
   pub arrows : List (Arrow Shape)
   pub whole : only (shapesOf (programIn file) g (functionIn file g)) ≡ leftFrom (programIn file) g (functionIn file g) i arrows
   pub some-i : 1 ≤ i
-  pub standing-in : Standing file g saved arrows i
+  pub standing-in : SlotsStand file g saved arrows i
 
-module _ {file : List ℕ} {n : ℕ} {ts : Tables} {g : ℕ} (a : FunctionAsks file n ts g) {r : Routine} (is : RoutineIs (payload file) (headOffset (payload file) g) r) where
+module _ {file : List ℕ} {ts : NameTables} {g : ℕ} (a : FunctionAsks file ts g) {r : Routine}
+    (is : RoutineIs (payload file) (headOffset (payload file) g) r) where
   pub slots-start : (u x : Saved) → u .visited ≡ false → StartIs (r .arity) x → Slots file g (set (replicate 258 u) 1 x) 1
   unfolding shapesOf outcome
   slots-start u x e s =
@@ -209,25 +224,37 @@ module _ {file : List ℕ} {n : ℕ} {ts : Tables} {g : ℕ} (a : FunctionAsks f
         arrows = (1, shapeIn (arity (functionIn file g)) x) ∷ [];
         whole = rw (start-shape (functionIn file g) x (few-parameters (a .walking) g (a .there)) q);
         some-i = omega arith;
-        standing-in = put-slot file g (replicate 258 u) [] 1 1 x true (s .visited) (λ z. absurd (false-true (sym z))) (λ _. start-fit a is x s) (omega arith) (omega arith) (no-slots file g u e);
+        standing-in =
+            put-slot file g (replicate 258 u) [] 1 1 x true (s .visited) (λ z. absurd (false-true (sym z))) (λ _. start-fit a is x s)
+            (omega arith) (omega arith) (no-slots file g u e);
       }
 
   module _ {saved : List Saved} {i : ℕ} (s : Slots file g saved i) where
     pub slots-end : r .last < i → only (shapesOf (programIn file) g (functionIn file g)) ≡ passed
-    slots-end h = s .whole ∙ outcome-end (shapeRule (programIn file) g (functionIn file g)) (functionIn file g .code) i (s .arrows) (omega (arith, is .last, code-length (a .walking) g (a .there)))
+    slots-end h =
+        s .whole ∙ outcome-end (shapeRule (programIn file) g (functionIn file g)) (functionIn file g .code) i (s .arrows)
+        (omega (arith, is .last, code-length (a .walking) g (a .there)))
 
     module _ (l : i ≤ r .last) where
       pub slots-low : i ≤ 256
       slots-low = omega (arith, is .last, here (a .walking) g (a .there) .short-code)
 
-      pub slots-asks : StepAsks file n ts g r i (getD saved i noSaved)
-      slots-asks = record { function = a; routine = is; some-i = s .some-i; last = l; fit = let z = slots-low in s .standing-in .fits i (omega arith) (omega arith) }
+      pub slots-asks : StepAsks file ts g r i (getD saved i noSaved)
+      slots-asks = record {
+        function = a;
+        routine = is;
+        some-i = s .some-i;
+        last = l;
+        fit = let z = slots-low in s .standing-in .fits i (omega arith) (omega arith);
+      }
 
       module _ {m : Moved} (says : StepSays file g i (getD saved i noSaved) m) where
-        pub slots-refused : (why : Reason) → m .checked ≡ checked.Refused why → only (shapesOf (programIn file) g (functionIn file g)) ≡ refused (refusalOf why)
+        pub slots-refused : (why : Reason) → m .checked ≡ checked.Refused why
+            → only (shapesOf (programIn file) g (functionIn file g)) ≡ refused (refusalOf why)
         slots-refused why e =
             let z = slots-low in
-            s .whole ∙ says .left (s .arrows) (s .standing-in .stands i (omega arith) (omega arith)) ∙ ap (λ (c : Checked). moveLeft file g m c (s .arrows)) e
+            s .whole ∙ says .left (s .arrows) (s .standing-in .stands i (omega arith) (omega arith))
+            ∙ ap (λ (c : Checked). moveLeft file g m c (s .arrows)) e
 
         module _ (e : m .checked ≡ checked.Right) where
           pub slots-on : i < m .on
@@ -241,7 +268,10 @@ module _ {file : List ℕ} {n : ℕ} {ts : Tables} {g : ℕ} (a : FunctionAsks f
               let z = slots-low in let o = slots-on in let p = s .some-i in
               record {
                 arrows = leaving (arity (functionIn file g)) m ++ s .arrows;
-                whole = s .whole ∙ says .left (s .arrows) (s .standing-in .stands i (omega arith) (omega arith)) ∙ ap (λ (c : Checked). moveLeft file g m c (s .arrows)) e;
+                whole =
+                    s .whole ∙ says .left (s .arrows) (s .standing-in .stands i (omega arith) (omega arith))
+                    ∙ ap (λ (c : Checked). moveLeft file g m c (s .arrows)) e;
                 some-i = omega arith;
-                standing-in = later file g _ _ i (m .on) (omega arith) (put-both file g saved (s .arrows) i m p (says .lands e) (s .standing-in));
+                standing-in =
+                    later file g _ _ i (m .on) (omega arith) (put-both file g saved (s .arrows) i m p (says .lands e) (s .standing-in));
               }

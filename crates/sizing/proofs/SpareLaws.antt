@@ -36,23 +36,26 @@ unfolding wholes
 below zero ps p h = refl
 below (suc m) ps p h = let a = below m ps p (omega arith) in let b = snoc-other m ps p (λ e. omega arith) in cc
 
-pub one-less : (m : ℕ) (ps : List Split) (p : Split) → p .variable < m → Whole (p .variable) ps → wholes (ps ++ (p ∷ [])) m + 1 ≡ wholes ps m
+one-less : (m : ℕ) (ps : List Split) (p : Split) → p .variable < m → Whole (p .variable) ps → wholes (ps ++ (p ∷ [])) m + 1 ≡ wholes ps m
 unfolding wholes
 one-less zero ps p h w = absurd (omega arith)
 one-less (suc m) ps p h w = go (λ l. one-less m ps p l w) (eqb m (p .variable)) refl
   where
-    go : (p .variable < m → wholes (ps ++ (p ∷ [])) m + 1 ≡ wholes ps m) → (t : Bool) → eqb m (p .variable) ≡ t → wholes (ps ++ (p ∷ [])) m + one (wholeb m (ps ++ (p ∷ []))) + 1 ≡ wholes ps m + one (wholeb m ps)
+    go : (p .variable < m → wholes (ps ++ (p ∷ [])) m + 1 ≡ wholes ps m) → (t : Bool) → eqb m (p .variable) ≡ t
+        → wholes (ps ++ (p ∷ [])) m + one (wholeb m (ps ++ (p ∷ []))) + 1 ≡ wholes ps m + one (wholeb m ps)
     go ih true e =
         let v = eqb-true m (p .variable) e in
         rw (snoc-same m ps p v, below m ps p (omega arith), v, wholeb-of (p .variable) ps w) (omega arith)
-    go ih false e = let g = ih (omega (arith, eqb-false m (p .variable) e)) in rw (snoc-other m ps p (eqb-false m (p .variable) e)) (omega arith)
+    go ih false e =
+        let g = ih (omega (arith, eqb-false m (p .variable) e)) in
+        rw (snoc-other m ps p (eqb-false m (p .variable) e)) (omega arith)
 
-pub more-whole : (k m : ℕ) (ps : List Split) → ((v : ℕ) → m ≤ v → Whole v ps) → wholes ps (m + k) ≡ wholes ps m + k
+more-whole : (k m : ℕ) (ps : List Split) → ((v : ℕ) → m ≤ v → Whole v ps) → wholes ps (m + k) ≡ wholes ps m + k
 unfolding wholes
 more-whole zero m ps h = rw (add-zero m) (omega arith)
 more-whole (suc k) m ps h = rw (add-suc m k, wholeb-of (m + k) ps (h (m + k) (omega arith))) (omega (arith, more-whole k m ps h))
 
-pub some-whole : (m v : ℕ) (ps : List Split) → v < m → Whole v ps → 1 ≤ wholes ps m
+some-whole : (m v : ℕ) (ps : List Split) → v < m → Whole v ps → 1 ≤ wholes ps m
 unfolding wholes
 some-whole zero v ps h w = absurd (omega arith)
 some-whole (suc m) v ps h w = go (λ l. some-whole m v ps l w) (eqb m v) refl
@@ -66,7 +69,8 @@ unfolding wholes wholeb
 spare-start zero = refl
 spare-start (suc n) = let a = spare-start n in omega arith
 
-pub spare-split : (ps : List Split) (count : ℕ) (p : Split) → Spare ps count → p .variable < count → Whole (p .variable) ps → ((v : ℕ) → count ≤ v → Whole v (ps ++ (p ∷ []))) → Spare (ps ++ (p ∷ [])) (count + p .parts)
+pub spare-split : (ps : List Split) (count : ℕ) (p : Split) → Spare ps count → p .variable < count → Whole (p .variable) ps
+    → ((v : ℕ) → count ≤ v → Whole v (ps ++ (p ∷ []))) → Spare (ps ++ (p ∷ [])) (count + p .parts)
 spare-split ps count p s v w fresh =
     let a = more-whole (p .parts) count (ps ++ (p ∷ [])) fresh in
     let b = one-less count ps p v w in

@@ -2,7 +2,7 @@
 use mathlib.Core.Path.{_≡_, refl, sym, ap, _∙_}
 use mathlib.Core.List.{List, [], _∷_, _++_, map, map-map, map-id}
 use mathlib.Core.Bool.{Bool, true, false}
-use Prim.Native.Nat.{ℕ, zero, suc, _+_, _*_, _-_, _≤_, _<_}
+use Prim.Native.Nat.{ℕ, zero, suc, _+_, _*_, _≤_, _<_}
 use native.Mathlib.Omega.{arith}
 use lib.ListN.{replicate}
 use lib.Dec.{eqb, ltb}
@@ -16,7 +16,8 @@ use Rattle.sizing.specs.declared.splits.Split.{Split}
 use Rattle.sizing.specs.Put.{coefficient, put, Wide, AllWide}
 use Rattle.sizing.specs.Splits.{variableE, splitE, through, spanned, splitA, carried, SplitRight, SplitsRight, Numbered, Whole}
 use Rattle.sizing.specs.Right.{Path}
-use Rattle.sizing.proofs.PutLaws.{added-wide, added-at, put-wide, constant-wide, constant-at, variable-wide, variable-same, variable-other, put-other-variable}
+use Rattle.sizing.proofs.PutLaws.{added-wide, added-at, put-wide, constant-wide, constant-at, variable-wide, variable-same}
+use Rattle.sizing.proofs.PutLaws.{variable-other, put-other-variable}
 use Rattle.sizing.proofs.SpareLaws.{spare-split}
 use Rattle.rules.specs.Lists.{l[], _l∷_}
 use Rattle.rules.proofs.ListLaws.{all-mapped}
@@ -40,9 +41,12 @@ spanned-low k (suc n) w i h =
 pub spanned-in : (k n w i : ℕ) → k + n ≤ 16 → k ≤ i → i < k + n → coefficient (spanned k n w) i ≡ 1
 unfolding spanned
 spanned-in k zero w i h a b = absurd (omega arith)
-spanned-in k (suc n) w i h a b = added-at 1 (variableOnly k) (spanned (suc k) n w) i (spanned-wide (suc k) n w) (variable-wide k) ∙ go (λ lt. spanned-in (suc k) n w i (omega arith) lt (omega arith)) (λ e. spanned-low (suc k) n w i (omega arith)) (eqb i k) refl
+spanned-in k (suc n) w i h a b =
+    added-at 1 (variableOnly k) (spanned (suc k) n w) i (spanned-wide (suc k) n w) (variable-wide k)
+    ∙ go (λ lt. spanned-in (suc k) n w i (omega arith) lt (omega arith)) (λ e. spanned-low (suc k) n w i (omega arith)) (eqb i k) refl
   where
-    go : (suc k ≤ i → coefficient (spanned (suc k) n w) i ≡ 1) → (i ≡ k → coefficient (spanned (suc k) n w) i ≡ 0) → (t : Bool) → eqb i k ≡ t → coefficient (spanned (suc k) n w) i + 1 * coefficient (variableOnly k) i ≡ 1
+    go : (suc k ≤ i → coefficient (spanned (suc k) n w) i ≡ 1) → (i ≡ k → coefficient (spanned (suc k) n w) i ≡ 0) → (t : Bool)
+        → eqb i k ≡ t → coefficient (spanned (suc k) n w) i + 1 * coefficient (variableOnly k) i ≡ 1
     go ih low true e = rw (low (eqb-true i k e), eqb-true i k e, variable-same k (omega arith))
     go ih low false e = rw (ih (omega (arith, eqb-false i k e)), variable-other k i (eqb-false i k e))
 
@@ -60,7 +64,7 @@ module _ (s : Program) where
   substituted-variables k (suc n) w =
       ap (λ (rest : Form). map (added 1 (variableOnly k)) rest ++ []) (substituted-variables (suc k) n w)
 
-  pub split-form : (p : Split) → SplitRight s p → formOf s (splitE p) ≡ splitA p ∷ []
+  split-form : (p : Split) → SplitRight s p → formOf s (splitE p) ≡ splitA p ∷ []
   unfolding formOf formsOf builtForm
   split-form p r = rw (r .known, r .arity, r .weight) (substituted-variables (p .first) (p .parts) (p .weight))
 
@@ -70,17 +74,19 @@ module _ (s : Program) where
   form-through [] r e = sym (map-id (formOf s e))
   form-through (p ∷ ps) r e =
       form-through ps (r .1) (replace (p .variable) (splitE p) e)
-      ∙ ap (map (carried ps)) (form-replaced (p .variable) (splitA p) (spanned-wide (p .first) (p .parts) (p .weight)) s (r .0 .small) (splitE p) (split-form p (r .0)) e)
+      ∙ ap (map (carried ps)) (form-replaced (p .variable) (splitA p) (spanned-wide (p .first) (p .parts) (p .weight)) s (r .0 .small)
+      (splitE p) (split-form p (r .0)) e)
       ∙ map-map (carried ps) (put (p .variable) (splitA p)) (formOf s e)
 
 ---- One split more
 
-pub through-more : (ps : List Split) (p : Split) (e : Expression) → through (ps ++ (p ∷ [])) e ≡ replace (p .variable) (splitE p) (through ps e)
+pub through-more : (ps : List Split) (p : Split) (e : Expression)
+    → through (ps ++ (p ∷ [])) e ≡ replace (p .variable) (splitE p) (through ps e)
 unfolding through
 through-more [] p e = refl
 through-more (q ∷ ps) p e = through-more ps p (replace (q .variable) (splitE q) e)
 
-pub carried-more : (ps : List Split) (p : Split) (a : Alternative) → carried (ps ++ (p ∷ [])) a ≡ put (p .variable) (splitA p) (carried ps a)
+carried-more : (ps : List Split) (p : Split) (a : Alternative) → carried (ps ++ (p ∷ [])) a ≡ put (p .variable) (splitA p) (carried ps a)
 unfolding carried
 carried-more [] p a = refl
 carried-more (q ∷ ps) p a = carried-more ps p (put (q .variable) (splitA q) a)
@@ -88,7 +94,9 @@ carried-more (q ∷ ps) p a = carried-more ps p (put (q .variable) (splitA q) a)
 pub carried-wide : (ps : List Split) (a : Alternative) → Wide a → Wide (carried ps a)
 unfolding carried
 carried-wide [] a w = w
-carried-wide (p ∷ ps) a w = carried-wide ps (put (p .variable) (splitA p) a) (put-wide (p .variable) (splitA p) a (spanned-wide (p .first) (p .parts) (p .weight)) w)
+carried-wide (p ∷ ps) a w =
+    carried-wide ps (put (p .variable) (splitA p) a)
+    (put-wide (p .variable) (splitA p) a (spanned-wide (p .first) (p .parts) (p .weight)) w)
 
 ---- A variable that is whole stays
 
@@ -97,11 +105,12 @@ unfolding through replace
 through-whole [] v w = refl
 through-whole (p ∷ ps) v w = rw (ne-eqb v (p .variable) (w .0)) (through-whole ps v (w .1))
 
-pub carried-whole : (ps : List Split) (v : ℕ) → Whole v ps → carried ps (variableOnly v) ≡ variableOnly v
+carried-whole : (ps : List Split) (v : ℕ) → Whole v ps → carried ps (variableOnly v) ≡ variableOnly v
 unfolding carried
 carried-whole [] v w = refl
 carried-whole (p ∷ ps) v w =
-    ap (carried ps) (put-other-variable (p .variable) (splitA p) v (spanned-wide (p .first) (p .parts) (p .weight)) (w .0)) ∙ carried-whole ps v (w .1)
+    ap (carried ps) (put-other-variable (p .variable) (splitA p) v (spanned-wide (p .first) (p .parts) (p .weight)) (w .0))
+    ∙ carried-whole ps v (w .1)
 
 pub numbered-le : (ps : List Split) (n count : ℕ) → Numbered n ps count → n ≤ count
 numbered-le [] n count h = omega arith
@@ -110,15 +119,18 @@ numbered-le (p ∷ ps) n count h = omega (arith, numbered-le ps (n + p .parts) c
 -- a variable that has not come up is whole
 pub whole-new : (ps : List Split) (n count v : ℕ) → Numbered n ps count → count ≤ v → Whole v ps
 whole-new [] n count v h l = tt
-whole-new (p ∷ ps) n count v h l = ((λ e. let g = numbered-le ps (n + p .parts) count (h .2) in omega (arith, h .0, g)), whole-new ps (n + p .parts) count v (h .2) l)
+whole-new (p ∷ ps) n count v h l =
+    ((λ e. let g = numbered-le ps (n + p .parts) count (h .2) in omega (arith, h .0, g)), whole-new ps (n + p .parts) count v (h .2) l)
 
-pub numbered-more : (ps : List Split) (n count : ℕ) (p : Split) → Numbered n ps count → p .variable < count → p .first ≡ count → Numbered n (ps ++ (p ∷ [])) (count + p .parts)
+numbered-more : (ps : List Split) (n count : ℕ) (p : Split) → Numbered n ps count → p .variable < count → p .first ≡ count
+    → Numbered n (ps ++ (p ∷ [])) (count + p .parts)
 numbered-more [] n count p h v f = rw h (v, f, refl)
 numbered-more (q ∷ ps) n count p h v f = (h .0, h .1, numbered-more ps (n + q .parts) count p (h .2) v f)
 
 ---- What a variable stands for, and every variable covered
 
-map-more : (ps : List Split) (p : Split) (xs : Form) → map (carried (ps ++ (p ∷ []))) xs ≡ map (put (p .variable) (splitA p)) (map (carried ps) xs)
+map-more : (ps : List Split) (p : Split) (xs : Form)
+    → map (carried (ps ++ (p ∷ []))) xs ≡ map (put (p .variable) (splitA p)) (map (carried ps) xs)
 map-more ps p [] = refl
 map-more ps p (x ∷ xs) = let e = carried-more ps p x in let ih = map-more ps p xs in cc
 
@@ -129,31 +141,40 @@ right-more : (s : Program) (ps : List Split) (p : Split) → SplitsRight s ps �
 right-more s [] p r q = (q, tt)
 right-more s (x ∷ ps) p r q = (r .0, right-more s ps p (r .1) q)
 
-pub whole-append : (qs : List Split) (p : Split) (x : ℕ) → Whole x qs → (x ≡ p .variable → ⊥) → Whole x (qs ++ (p ∷ []))
+whole-append : (qs : List Split) (p : Split) (x : ℕ) → Whole x qs → (x ≡ p .variable → ⊥) → Whole x (qs ++ (p ∷ []))
 whole-append [] p x w d = (d, tt)
 whole-append (q ∷ qs) p x w d = (w .0, whole-append qs p x (w .1) d)
 
 -- a split of a whole variable: the next path
 pub path-split : (s : Program) (own : Form) (n : ℕ) (ps : List Split) (count : ℕ) (p : Split) → AllWide own → Path s own n ps count
-    → SplitRight s p → p .variable < count → Whole (p .variable) ps → p .first ≡ count → count + p .parts ≤ 16 → Path s own n (ps ++ (p ∷ [])) (count + p .parts)
+    → SplitRight s p → p .variable < count → Whole (p .variable) ps → p .first ≡ count → count + p .parts ≤ 16
+    → Path s own n (ps ++ (p ∷ [])) (count + p .parts)
 path-split s own n ps count p w h r v u f l =
     record {
       right = right-more s ps p (h .right) r;
       numbered = numbered-more ps n count p (h .numbered) v f;
       few = l;
-      spare = spare-split ps count p (h .spare) v u (λ x g. whole-append ps p x (whole-new ps n count x (h .numbered) g) (λ e. omega arith));
+      spare =
+          spare-split ps count p (h .spare) v u (λ x g. whole-append ps p x (whole-new ps n count x (h .numbered) g) (λ e. omega arith));
       covered = λ x xl. rw (map-more ps p own, carried-more ps p (variableOnly x)) (go x xl (ltb x count) refl);
     }
   where
     sw : Wide (splitA p)
     sw = spanned-wide (p .first) (p .parts) (p .weight)
 
-    go : (x : ℕ) → x < count + p .parts → (t : Bool) → ltb x count ≡ t → covers (map (put (p .variable) (splitA p)) (map (carried ps) own)) (put (p .variable) (splitA p) (carried ps (variableOnly x)) ∷ []) ≡ true
+    go : (x : ℕ) → x < count + p .parts → (t : Bool) → ltb x count ≡ t
+        → covers (map (put (p .variable) (splitA p)) (map (carried ps) own))
+        (put (p .variable) (splitA p) (carried ps (variableOnly x)) ∷ []) ≡ true
     go x xl true e =
-        covers-put (p .variable) (splitA p) sw (map (carried ps) own) (carried ps (variableOnly x) ∷ []) (carried-all-wide ps own w) (carried-wide ps (variableOnly x) (variable-wide x) l∷ l[]) (h .covered x (ltb-true x count e))
+        covers-put (p .variable) (splitA p) sw (map (carried ps) own) (carried ps (variableOnly x) ∷ []) (carried-all-wide ps own w)
+        (carried-wide ps (variableOnly x) (variable-wide x) l∷ l[]) (h .covered x (ltb-true x count e))
     go x xl false e =
         let ge : count ≤ x = ltb-false x count e in
-        rw (carried-whole ps x (whole-new ps n count x (h .numbered) ge), put-other-variable (p .variable) (splitA p) x sw (λ e. omega arith))
+        rw (
+          carried-whole ps x (whole-new ps n count x (h .numbered) ge),
+          put-other-variable (p .variable) (splitA p) x sw (λ e. omega
+              arith),
+        )
         (covers-part (p .variable) (splitA p) sw x (map (carried ps) own) (omega arith) (r .small) (carried-all-wide ps own w)
         (rw (spanned-in (p .first) (p .parts) (p .weight) x (omega arith) (omega arith) (omega arith)) (omega arith))
         (rw (carried-whole ps (p .variable) u) at (h .covered (p .variable) v)))

@@ -60,14 +60,17 @@ module _ (s : Program) (n : ℕ) (f : Function) (st : Saved) (r : SavedRight s f
   splits-length = let a = r .list in let b = r .few in length-take-le (st .taken) (st .list) (omega arith)
 
   -- load
-  pub load-saved : (i k : ℕ) (x : Saved) → k < st .height → st .height < 16 → SameSplits st x → x .height ≡ st .height + 1 → stackIn x ≡ stackIn st ++ (getD (stackIn st) k 0 ∷ [])
+  pub load-saved : (i k : ℕ) (x : Saved) → k < st .height → st .height < 16 → SameSplits st x → x .height ≡ st .height + 1
+      → stackIn x ≡ stackIn st ++ (getD (stackIn st) k 0 ∷ [])
       → (shapeFrom s n f i (Load (suc k)) (shapeIn (arity f) st) ≡ found ((suc i, shapeIn (arity f) x) ∷ [])) × SavedRight s f x
   load-saved i k x h l q g e = (
     load-rule s n f (splitsIn st) (st .count) (stackIn st) (r .path) (r .under) i k (let z = stack-length in omega arith)
         ∙ ap (λ (sh : Shape). found ((suc i, sh) ∷ [])) same,
     record {
       path = rw (q .taken, q .list, q .count) (r .path);
-      under = rw (q .count, e) (under-append (st .count) (stackIn st) (getD (stackIn st) k 0 ∷ []) (r .under) (under-get (st .count) (stackIn st) k (let z = stack-length in omega arith) (r .under), tt));
+      under =
+          rw (q .count, e) (under-append (st .count) (stackIn st) (getD (stackIn st) k 0 ∷ []) (r .under)
+          (under-get (st .count) (stackIn st) k (let z = stack-length in omega arith) (r .under), tt));
       high = omega arith;
       long = q .long;
       few = rw (q .taken) (r .few);
@@ -80,12 +83,6 @@ module _ (s : Program) (n : ℕ) (f : Function) (st : Saved) (r : SavedRight s f
 
   -- the top
   module _ (h : 0 < st .height) where
-    rest : List ℕ
-    rest = take (st .height - 1) (st .stack)
-
-    pub top : ℕ
-    top = getD (st .stack) (st .height - 1) 0
-
     stack-top : stackIn st ≡ take (st .height - 1) (st .stack) ++ (getD (st .stack) (st .height - 1) 0 ∷ [])
     stack-top =
         let e : st .height ≡ suc (st .height - 1) = omega arith in
@@ -93,12 +90,16 @@ module _ (s : Program) (n : ℕ) (f : Function) (st : Saved) (r : SavedRight s f
         ap (λ (k : ℕ). take k (st .stack)) e ∙ take-suc (st .stack) (st .height - 1) 0 (omega arith)
 
     under-rest : AllUnder (st .count) (take (st .height - 1) (st .stack))
-    under-rest = under-left (st .count) (take (st .height - 1) (st .stack)) (getD (st .stack) (st .height - 1) 0 ∷ []) (rw stack-top at (r .under))
+    under-rest =
+        under-left (st .count) (take (st .height - 1) (st .stack)) (getD (st .stack) (st .height - 1) 0 ∷ []) (rw stack-top at (r .under))
 
     pub under-top : getD (st .stack) (st .height - 1) 0 < st .count
-    under-top = under-right (st .count) (take (st .height - 1) (st .stack)) (getD (st .stack) (st .height - 1) 0 ∷ []) (rw stack-top at (r .under)) .0
+    under-top =
+        under-right (st .count) (take (st .height - 1) (st .stack)) (getD (st .stack) (st .height - 1) 0 ∷ [])
+        (rw stack-top at (r .under)) .0
 
-    module _ (i b c : ℕ) (k : Constructor) (known : constructor s c ≡ some k) (at : ℕ) (fd : Found (getD (st .stack) (st .height - 1) 0) (st .taken) (st .list) at) where
+    module _ (i b c : ℕ) (k : Constructor) (known : constructor s c ≡ some k) (at : ℕ)
+        (fd : Found (getD (st .stack) (st .height - 1) 0) (st .taken) (st .list) at) where
       splitting : at < st .taken → Splitting (getD (st .stack) (st .height - 1) 0) (splitsIn st) (getD (st .list) at noSplit)
       splitting l =
           let z = splits-length in
@@ -107,22 +108,27 @@ module _ (s : Program) (n : ℕ) (f : Function) (st : Saved) (r : SavedRight s f
           (λ j g. rw (getD-take (st .taken) (st .list) j noSplit (omega arith)) (fd .before j g))
           (ap (λ (p : Split). p .variable) (getD-take (st .taken) (st .list) at noSplit l) ∙ fd .there l))
 
-      pub branch-other : at < st .taken → (getD (st .list) at noSplit .constructor ≡ c → ⊥) → shapeFrom s n f i (Branch c b) (shapeIn (arity f) st) ≡ found ((b, shapeIn (arity f) st) ∷ [])
+      pub branch-other : at < st .taken → (getD (st .list) at noSplit .constructor ≡ c → ⊥)
+          → shapeFrom s n f i (Branch c b) (shapeIn (arity f) st) ≡ found ((b, shapeIn (arity f) st) ∷ [])
       branch-other l d =
-          branch-known s n f (splitsIn st) (st .count) (stackIn st) (r .path) (r .under) i b (take (st .height - 1) (st .stack)) (getD (st .stack) (st .height - 1) 0) stack-top (getD (st .list) at noSplit) (splitting l) c k known
+          branch-known s n f (splitsIn st) (st .count) (stackIn st) (r .path) (r .under) i b (take (st .height - 1) (st .stack))
+          (getD (st .stack) (st .height - 1) 0) stack-top (getD (st .list) at noSplit) (splitting l) c k known
           ∙ rw (ne-eqb (getD (st .list) at noSplit .constructor) c d)
 
       pub branch-taken : (x : Saved) → at < st .taken → getD (st .list) at noSplit .constructor ≡ c → SameSplits st x → x .height ≤ 16
           → stackIn x ≡ take (st .height - 1) (st .stack) ++ upFrom (getD (st .list) at noSplit .first) (getD (st .list) at noSplit .parts)
           → (shapeFrom s n f i (Branch c b) (shapeIn (arity f) st) ≡ found ((suc i, shapeIn (arity f) x) ∷ [])) × SavedRight s f x
       branch-taken x l e q g t = (
-        branch-known s n f (splitsIn st) (st .count) (stackIn st) (r .path) (r .under) i b (take (st .height - 1) (st .stack)) (getD (st .stack) (st .height - 1) 0) stack-top (getD (st .list) at noSplit) (splitting l) c k known
+        branch-known s n f (splitsIn st) (st .count) (stackIn st) (r .path) (r .under) i b (take (st .height - 1) (st .stack))
+            (getD (st .stack) (st .height - 1) 0) stack-top (getD (st .list) at noSplit) (splitting l) c k known
             ∙ rw (eq-eqb (getD (st .list) at noSplit .constructor) c e) (ap (λ (sh : Shape). found ((suc i, sh) ∷ [])) same),
         record {
           path = rw (q .taken, q .list, q .count) (r .path);
           under = rw (q .count, t)
-              (under-append (st .count) (take (st .height - 1) (st .stack)) (upFrom (getD (st .list) at noSplit .first) (getD (st .list) at noSplit .parts)) under-rest
-              (under-up (st .count) (getD (st .list) at noSplit .first) (getD (st .list) at noSplit .parts) (splitting-last (arity f) (st .count) (splitting l) (r .path .numbered))));
+              (under-append (st .count) (take (st .height - 1) (st .stack))
+              (upFrom (getD (st .list) at noSplit .first) (getD (st .list) at noSplit .parts)) under-rest
+              (under-up (st .count) (getD (st .list) at noSplit .first) (getD (st .list) at noSplit .parts)
+              (splitting-last (arity f) (st .count) (splitting l) (r .path .numbered))));
           high = g;
           long = q .long;
           few = rw (q .taken) (r .few);
@@ -130,30 +136,49 @@ module _ (s : Program) (n : ℕ) (f : Function) (st : Saved) (r : SavedRight s f
         },
       )
         where
-          same : shapeOf (arity f) (splitsIn st) (st .count) (take (st .height - 1) (st .stack) ++ upFrom (getD (st .list) at noSplit .first) (getD (st .list) at noSplit .parts)) ≡ shapeIn (arity f) x
+          same : shapeOf (arity f) (splitsIn st) (st .count)
+              (take (st .height - 1) (st .stack) ++ upFrom (getD (st .list) at noSplit .first) (getD (st .list) at noSplit .parts))
+              ≡ shapeIn (arity f) x
           same = rw (q .taken, q .list, q .count, t)
 
       whole : at ≡ st .taken → Whole (getD (st .stack) (st .height - 1) 0) (splitsIn st)
       whole e =
           let z = splits-length in
-          whole-of (getD (st .stack) (st .height - 1) 0) (splitsIn st) (λ j g. let w : j < st .taken = rw splits-length at g in rw (getD-take (st .taken) (st .list) j noSplit w) (fd .before j (omega arith)))
+          whole-of (getD (st .stack) (st .height - 1) 0) (splitsIn st)
+          (λ j g. let w : j < st .taken = rw splits-length at g in
+          rw (getD-take (st .taken) (st .list) j noSplit w) (fd .before j (omega arith)))
 
-      pub branch-over : at ≡ st .taken → 16 < st .count + length (k .arguments) → shapeFrom s n f i (Branch c b) (shapeIn (arity f) st) ≡ refused (refusal 9 n i)
-      branch-over e o = branch-large s n f (splitsIn st) (st .count) (stackIn st) (r .path) (r .under) i b (take (st .height - 1) (st .stack)) (getD (st .stack) (st .height - 1) 0) stack-top (whole e) c k known o
+      pub branch-over : at ≡ st .taken → 16 < st .count + length (k .arguments)
+          → shapeFrom s n f i (Branch c b) (shapeIn (arity f) st) ≡ refused (refusal 9 n i)
+      branch-over e o =
+          branch-large s n f (splitsIn st) (st .count) (stackIn st) (r .path) (r .under) i b (take (st .height - 1) (st .stack))
+          (getD (st .stack) (st .height - 1) 0) stack-top (whole e) c k known o
 
-      pub branch-split : (p : Split) (m x : Saved) → at ≡ st .taken → p .variable ≡ getD (st .stack) (st .height - 1) 0 → p .constructor ≡ c → p .first ≡ st .count → p .parts ≡ length (k .arguments) → p .weight ≡ k .weight
-          → st .count + p .parts ≤ 16 → st .taken < 16 → SplitMore st p m → SameSplits m x → x .height ≤ 16 → stackIn x ≡ take (st .height - 1) (st .stack) ++ upFrom (st .count) (p .parts)
-          → (shapeFrom s n f i (Branch c b) (shapeIn (arity f) st) ≡ found ((suc i, shapeIn (arity f) x) ∷ (b, shapeIn (arity f) st) ∷ [])) × SavedRight s f x
+      pub branch-split : (p : Split) (m x : Saved) → at ≡ st .taken → p .variable ≡ getD (st .stack) (st .height - 1) 0 → p .constructor ≡ c
+          → p .first ≡ st .count → p .parts ≡ length (k .arguments) → p .weight ≡ k .weight
+          → st .count + p .parts ≤ 16 → st .taken < 16 → SplitMore st p m → SameSplits m x → x .height ≤ 16
+          → stackIn x ≡ take (st .height - 1) (st .stack) ++ upFrom (st .count) (p .parts)
+          → (shapeFrom s n f i (Branch c b) (shapeIn (arity f) st) ≡ found ((suc i, shapeIn (arity f) x) ∷ (b, shapeIn (arity f) st) ∷ []))
+          × SavedRight s f x
       branch-split p m x e pv pc pf pn pw o room sm q g t = (
-        branch-whole s n f (splitsIn st) (st .count) (stackIn st) (r .path) (r .under) i b (take (st .height - 1) (st .stack)) (getD (st .stack) (st .height - 1) 0) stack-top (whole e) c k known p pv pc pf pn under-top (let z = pn in omega arith)
+        branch-whole s n f (splitsIn st) (st .count) (stackIn st) (r .path) (r .under) i b (take (st .height - 1) (st .stack))
+            (getD (st .stack) (st .height - 1) 0) stack-top (whole e) c k known p pv pc pf pn under-top (let z = pn in omega arith)
             ∙ ap (λ (sh : Shape). found ((suc i, sh) ∷ (b, shapeIn (arity f) st) ∷ [])) same,
         record {
           path = rw (splits-x, q .count, sm .count)
               (path-split s (ownAt s f) (arity f) (splitsIn st) (st .count) p (own-wide s f) (r .path)
-              (record { small = let z = under-top in let y = r .path .few in omega arith; declared-as = k; known = ap (constructor s) pc ∙ known; arity = sym pn; weight = sym pw })
+              (record {
+                small = let z = under-top in let y = r .path .few in omega arith;
+                declared-as = k;
+                known = ap (constructor s) pc ∙ known;
+                arity = sym pn;
+                weight = sym pw;
+              })
               (let z = under-top in omega arith) (rw pv (whole e)) pf o);
           under = rw (q .count, sm .count, t)
-              (under-append (st .count + p .parts) (take (st .height - 1) (st .stack)) (upFrom (st .count) (p .parts)) (under-more (st .count) (st .count + p .parts) (take (st .height - 1) (st .stack)) (omega arith) under-rest) (under-up (st .count + p .parts) (st .count) (p .parts) (le-refl (st .count + p .parts))));
+              (under-append (st .count + p .parts) (take (st .height - 1) (st .stack)) (upFrom (st .count) (p .parts))
+              (under-more (st .count) (st .count + p .parts) (take (st .height - 1) (st .stack)) (omega arith) under-rest)
+              (under-up (st .count + p .parts) (st .count) (p .parts) (le-refl (st .count + p .parts))));
           high = g;
           long = q .long;
           few = rw (q .taken, sm .taken) (omega arith);
@@ -164,5 +189,6 @@ module _ (s : Program) (n : ℕ) (f : Function) (st : Saved) (r : SavedRight s f
           splits-x : splitsIn x ≡ splitsIn st ++ (p ∷ [])
           splits-x = ap (λ (j : ℕ). take j (x .list)) (q .taken) ∙ ap (take (m .taken)) (q .list) ∙ sm .splits
 
-          same : shapeOf (arity f) (splitsIn st ++ (p ∷ [])) (st .count + length (k .arguments)) (take (st .height - 1) (st .stack) ++ upFrom (st .count) (length (k .arguments))) ≡ shapeIn (arity f) x
+          same : shapeOf (arity f) (splitsIn st ++ (p ∷ [])) (st .count + length (k .arguments))
+              (take (st .height - 1) (st .stack) ++ upFrom (st .count) (length (k .arguments))) ≡ shapeIn (arity f) x
           same = rw (← pn, splits-x, q .count, sm .count, t)

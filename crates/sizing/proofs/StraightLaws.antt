@@ -17,7 +17,7 @@ use Rattle.rules.specs.declared.records.Instruction.the-variants.{Load, Build, 
 use Rattle.rules.specs.Base.{refusal, found, refused}
 use Rattle.rules.specs.Container.{payload}
 use Rattle.rules.specs.Program.{Function, arity}
-use Rattle.rules.specs.Records.{alternativeOf}
+use Rattle.rules.specs.Records.{alternativeOf, programIn, functionIn}
 use Rattle.rules.specs.Stacks.{slot, push}
 use Rattle.rules.specs.Walk.{Arrow, arriving, first}
 use Rattle.rules.specs.Expressions.{Symbol, built, called}
@@ -31,24 +31,27 @@ use Rattle.sizing.specs.declared.paths.Saved.{Saved}
 use Rattle.sizing.specs.declared.routines.Routine.{Routine}
 use Rattle.sizing.specs.declared.routines.Maker.{Maker}
 use Rattle.sizing.specs.Splits.{variableE}
-use Rattle.sizing.specs.Forms.{formIn, Made, noForm, noRow, argumentsIn, boundIn, BoundRight, Arguments}
+use Rattle.sizing.specs.Forms.{formIn, FormMade, noForm, noRow, argumentsIn, boundIn, BoundRight, ArgumentForms}
 use Rattle.sizing.specs.Right.{shapeIn, LineRight}
 use Rattle.sizing.specs.Steps.{FormsAsks, FormsAre, OwnAsks, OwnIs}
-use Rattle.sizing.specs.Chart.{At}
+use Rattle.sizing.specs.Chart.{ReachedAt}
 use Rattle.sizing.specs.Left.{leftFrom}
-use Rattle.sizing.specs.Routines.{Tables, MakerIs}
-use Rattle.sizing.specs.Walking.{programIn, functionIn, Makes, LineAsks}
+use Rattle.sizing.specs.Routines.{NameTables, MakerIs}
+use Rattle.sizing.specs.Walking.{Makes, LineAsks}
 use Rattle.sizing.proofs.WalkLaws.{alike-past, alike-here, alike-put, outcome-alike, outcome-refused, outcome-goes, first-put}
 use Rattle.sizing.proofs.ReachLaws.{at-low, at-load, at-build, at-call, at-branch, at-some}
-use Rattle.sizing.proofs.FileLaws.{constructor-read, light, function-named, arity-is, few-parameters, bound-right, bound-is, own-bound}
+use Rattle.sizing.proofs.FileLaws.{constructor-read, light, function-named, arity-is, few-parameters, bound-right, bound-is}
+use Rattle.sizing.proofs.FileLaws.{own-bound}
 use Rattle.sizing.proofs.ConvertLaws.{stack-asks, own-asks, converted}
-use Rattle.sizing.proofs.LineLaws.{line-rule, line-entry, load-line, entered, enteredShape, enter-large, enter-goes, enter-line, enter-refused, build-form, call-form}
+use Rattle.sizing.proofs.LineLaws.{line-rule, line-entry, load-line, entered, enteredShape, enter-large, enter-goes, enter-line}
+use Rattle.sizing.proofs.LineLaws.{enter-refused, build-form, call-form}
 
 ---- The top four
 
 -- as the code has them
-abbrev pub topFour : List Form → ℕ → List Form
-topFour stack from = getD stack from noForm ∷ getD stack (from + 1) noForm ∷ getD stack (from + 2) noForm ∷ getD stack (from + 3) noForm ∷ []
+abbrev topFour : List Form → ℕ → List Form
+topFour stack from =
+    getD stack from noForm ∷ getD stack (from + 1) noForm ∷ getD stack (from + 2) noForm ∷ getD stack (from + 3) noForm ∷ []
 
 top-at : (stack : List Form) (from i : ℕ) → i < 4 → getD (topFour stack from) i noForm ≡ getD stack (from + i) noForm
 top-at stack from zero h = ap (λ (k : ℕ). getD stack k noForm) (omega arith)
@@ -63,7 +66,8 @@ top-taken stack from n h l =
     let b = length-take-le n (drop from stack) (rw (length-drop from stack) (omega arith)) in
     ext-getD noForm (take n (topFour stack from)) (take n (drop from stack)) (a ∙ sym b)
     (λ i m. let k : i < n = rw a at m in
-    getD-take n (topFour stack from) i noForm k ∙ top-at stack from i (omega arith) ∙ sym (getD-take n (drop from stack) i noForm k ∙ getD-drop from stack i noForm))
+    getD-take n (topFour stack from) i noForm k ∙ top-at stack from i (omega arith)
+    ∙ sym (getD-take n (drop from stack) i noForm k ∙ getD-drop from stack i noForm))
 
 ---- A build as a bound of one row
 
@@ -75,19 +79,22 @@ ones (suc (suc (suc zero))) h = refl
 ones (suc (suc (suc (suc zero)))) h = refl
 ones (suc (suc (suc (suc (suc n))))) h = absurd (omega arith)
 
-one-row : (n w : ℕ) (b : Bound) (fs : List forms.Form) → n ≤ 4 → b .count ≡ 1 → length (b .rows) ≡ 4 → getD (b .rows) 0 noRow ≡ record { coefficients = 1 ∷ 1 ∷ 1 ∷ 1 ∷ []; constant = w }
+one-row : (n w : ℕ) (b : Bound) (fs : List forms.Form) → n ≤ 4 → b .count ≡ 1 → length (b .rows) ≡ 4
+    → getD (b .rows) 0 noRow ≡ record { coefficients = 1 ∷ 1 ∷ 1 ∷ 1 ∷ []; constant = w }
     → intoBound (boundIn n b) fs ≡ substituted (replicate n 1) w fs
 unfolding intoBound flatMap alternativeOf
 one-row n w b fs h c l r =
     ap (λ (rows : List AlternativeRecord). intoBound (map (alternativeOf n) rows) fs) (first-row (b .rows) (b .count) c l r)
     ∙ append-nil (substituted (take n (1 ∷ 1 ∷ 1 ∷ 1 ∷ [])) w fs) ∙ ap (λ (ms : List ℕ). substituted ms w fs) (ones n h)
   where
-    first-row : (rows : List AlternativeRecord) (k : ℕ) → k ≡ 1 → length rows ≡ 4 → getD rows 0 noRow ≡ record { coefficients = 1 ∷ 1 ∷ 1 ∷ 1 ∷ []; constant = w }
+    first-row : (rows : List AlternativeRecord) (k : ℕ) → k ≡ 1 → length rows ≡ 4
+        → getD rows 0 noRow ≡ record { coefficients = 1 ∷ 1 ∷ 1 ∷ 1 ∷ []; constant = w }
         → take k rows ≡ record { coefficients = 1 ∷ 1 ∷ 1 ∷ 1 ∷ []; constant = w } ∷ []
     first-row [] k e l r = absurd (omega arith)
     first-row (x ∷ rows) k e l r = rw e (ap (λ (y : AlternativeRecord). y ∷ []) r)
 
-one-right : (b : Bound) (w : ℕ) → w ≤ 255 → b .count ≡ 1 → length (b .rows) ≡ 4 → getD (b .rows) 0 noRow ≡ record { coefficients = 1 ∷ 1 ∷ 1 ∷ 1 ∷ []; constant = w } → BoundRight b
+one-right : (b : Bound) (w : ℕ) → w ≤ 255 → b .count ≡ 1 → length (b .rows) ≡ 4
+    → getD (b .rows) 0 noRow ≡ record { coefficients = 1 ∷ 1 ∷ 1 ∷ 1 ∷ []; constant = w } → BoundRight b
 one-right b w h c l e = record {
   some = omega arith;
   few = omega arith;
@@ -109,18 +116,19 @@ pub record LineGoes (file : List ℕ) (g start : ℕ) (from : Shape) (own : Form
   pub shape : Shape
   pub line : LineRight (programIn file) (functionIn file g) shape own stack height
   pub past : Bool
-  pub at : At (programIn file) g (functionIn file g) j height past
+  pub at : ReachedAt (programIn file) g (functionIn file g) j height past
   pub makes : past ≡ false → (ins : Instruction) → slot j (functionIn file g .code) ≡ some ins → Makes ins
   pub behind : start ≤ j
   pub left : (arrows : List (Arrow Shape)) → first (arriving start arrows) ≡ some from
-      → leftFrom (programIn file) g (functionIn file g) start arrows ≡ leftFrom (programIn file) g (functionIn file g) j ((j, shape) ∷ arrows)
+      → leftFrom (programIn file) g (functionIn file g) start arrows
+      ≡ leftFrom (programIn file) g (functionIn file g) j ((j, shape) ∷ arrows)
 
 -- from every shape that the forms at the start stand for
 abbrev pub Line : List ℕ → ℕ → ℕ → Form → List Form → ℕ → List Form → ℕ → ℕ → Type 0
 Line file g start own stack₀ height₀ stack height j =
     (from : Shape) → LineRight (programIn file) (functionIn file g) from own stack₀ height₀ → LineGoes file g start from own stack height j
 
-module _ {file : List ℕ} {n : ℕ} {ts : Tables} {g : ℕ} {r : Routine} {start : ℕ} {st : Saved} (a : LineAsks file n ts g r start st) where
+module _ {file : List ℕ} {ts : NameTables} {g : ℕ} {r : Routine} {start : ℕ} {st : Saved} (a : LineAsks file ts g r start st) where
   ---- The start
 
   pub line-stack-asks : FormsAsks st
@@ -132,7 +140,8 @@ module _ {file : List ℕ} {n : ℕ} {ts : Tables} {g : ℕ} {r : Routine} {star
       (rw (arity-is (a .walking) g (a .there)) (own-bound (a .walking) g (a .there) (r .bound) (a .routine .bound)))
       (rw (arity-is (a .walking) g (a .there)) (bound-is (a .walking) g (a .there) (r .bound) (a .routine .bound)))
 
-  pub line-right : (own : Form) (stack : List Form) → OwnIs (r .bound) (record { taken = st .taken; list = st .list }) own → FormsAre st stack
+  pub line-right : (own : Form) (stack : List Form) → OwnIs (r .bound) (record { taken = st .taken; list = st .list }) own
+      → FormsAre st stack
       → LineRight (programIn file) (functionIn file g) (shapeIn (arity (functionIn file g)) st) own stack (st .height)
   line-right own stack o h = converted (programIn file) (functionIn file g) st (a .right) (light (a .walking))
       (le-trans (few-parameters (a .walking) g (a .there)) (omega arith)) (r .bound)
@@ -148,7 +157,9 @@ module _ {file : List ℕ} {n : ℕ} {ts : Tables} {g : ℕ} {r : Routine} {star
     at = a .at;
     makes = λ _. a .makes;
     behind = le-refl start;
-    left = λ arrows e. outcome-alike (shapeRule (programIn file) g (functionIn file g)) (functionIn file g .code) start arrows ((start, from) ∷ arrows) (alike-here start from arrows e);
+    left =
+        λ arrows e. outcome-alike (shapeRule (programIn file) g (functionIn file g)) (functionIn file g .code) start arrows
+        ((start, from) ∷ arrows) (alike-here start from arrows e);
   }
 
   ---- At instruction j
@@ -157,19 +168,25 @@ module _ {file : List ℕ} {n : ℕ} {ts : Tables} {g : ℕ} {r : Routine} {star
     -- one arrow leaves, to the next instruction
     on : (ins : Instruction) (next : Shape) (arrows : List (Arrow Shape)) → slot j (functionIn file g .code) ≡ some ins
         → shapeFrom (programIn file) g (functionIn file g) j ins (l .shape) ≡ found ((suc j, next) ∷ [])
-        → leftFrom (programIn file) g (functionIn file g) j ((j, l .shape) ∷ arrows) ≡ leftFrom (programIn file) g (functionIn file g) (suc j) ((suc j, next) ∷ arrows)
+        → leftFrom (programIn file) g (functionIn file g) j ((j, l .shape) ∷ arrows)
+        ≡ leftFrom (programIn file) g (functionIn file g) (suc j) ((suc j, next) ∷ arrows)
     on ins next arrows e h =
-        outcome-goes (shapeRule (programIn file) g (functionIn file g)) (functionIn file g .code) j ((j, l .shape) ∷ arrows) e (l .shape) ((suc j, next) ∷ []) (here-first arrows)
+        outcome-goes (shapeRule (programIn file) g (functionIn file g)) (functionIn file g .code) j ((j, l .shape) ∷ arrows) e (l .shape)
+        ((suc j, next) ∷ []) (here-first arrows)
         (line-rule g (l .line) j ins ∙ h)
-        ∙ outcome-alike (shapeRule (programIn file) g (functionIn file g)) (functionIn file g .code) (suc j) ((suc j, next) ∷ (j, l .shape) ∷ arrows) ((suc j, next) ∷ arrows)
+        ∙ outcome-alike (shapeRule (programIn file) g (functionIn file g)) (functionIn file g .code) (suc j)
+        ((suc j, next) ∷ (j, l .shape) ∷ arrows) ((suc j, next) ∷ arrows)
         (alike-put (suc j) (suc j) next ((j, l .shape) ∷ arrows) arrows (alike-past (suc j) j (l .shape) arrows (omega arith)))
       where
         here-first : (arrows : List (Arrow Shape)) → first (arriving j ((j, l .shape) ∷ arrows)) ≡ some (l .shape)
         here-first arrows = first-put j j (l .shape) arrows ∙ rw (eq-eqb j j refl)
 
     -- the code's next number
-    next-goes : (next : Shape) (stack′ : List Form) (height′ : ℕ) (p : Bool) → LineRight (programIn file) (functionIn file g) next own stack′ height′ → At (programIn file) g (functionIn file g) (suc j) height′ p → p ≡ true
-        → ((arrows : List (Arrow Shape)) → leftFrom (programIn file) g (functionIn file g) j ((j, l .shape) ∷ arrows) ≡ leftFrom (programIn file) g (functionIn file g) (suc j) ((suc j, next) ∷ arrows))
+    next-goes : (next : Shape) (stack′ : List Form) (height′ : ℕ) (p : Bool)
+        → LineRight (programIn file) (functionIn file g) next own stack′ height′
+        → ReachedAt (programIn file) g (functionIn file g) (suc j) height′ p → p ≡ true
+        → ((arrows : List (Arrow Shape)) → leftFrom (programIn file) g (functionIn file g) j ((j, l .shape) ∷ arrows)
+        ≡ leftFrom (programIn file) g (functionIn file g) (suc j) ((suc j, next) ∷ arrows))
         → LineGoes file g start from own stack′ height′ (j + 1)
     next-goes next stack′ height′ p r′ y past-on h =
         let b = l .behind in
@@ -206,26 +223,37 @@ module _ {file : List ℕ} {n : ℕ} {ts : Tables} {g : ℕ} {r : Routine} {star
           let y = at-load (a .walking) (a .there) (l .at) x e in
           let s : x ≡ suc (x - 1) = omega (arith, q .0) in
           let d = load-line g (l .line) j (x - 1) (variableE 0) (omega (arith, q .0, q .1)) (q .2) in
-          next-goes (withStack (l .shape) (push (l .shape .stack) (getD (l .shape .stack) (x - 1) (variableE 0)))) (set stack height (getD stack (x - 1) noForm)) (height + 1) (l .past) (d .1) (y .2) (past-load x e)
-          (λ arrows. on (Load x) (withStack (l .shape) (push (l .shape .stack) (getD (l .shape .stack) (x - 1) (variableE 0)))) arrows e (ap (λ (k : ℕ). shapeFrom (programIn file) g (functionIn file g) j (Load k) (l .shape)) s ∙ d .0))
+          next-goes (withStack (l .shape) (push (l .shape .stack) (getD (l .shape .stack) (x - 1) (variableE 0))))
+          (set stack height (getD stack (x - 1) noForm)) (height + 1) (l .past) (d .1) (y .2) (past-load x e)
+          (λ arrows. on (Load x) (withStack (l .shape) (push (l .shape .stack) (getD (l .shape .stack) (x - 1) (variableE 0)))) arrows e
+          (ap (λ (k : ℕ). shapeFrom (programIn file) g (functionIn file g) j (Load k) (l .shape)) s ∙ d .0))
 
     ---- The end
 
-    pub line-end : (ins : Instruction) → slot j (functionIn file g .code) ≡ some ins → (m : Maker) → MakerIs (payload file) ins m → m .makes ≡ false → ((x : ℕ) → ins ≡ Load x → ⊥)
-        → ((arrows : List (Arrow Shape)) → first (arriving start arrows) ≡ some from → leftFrom (programIn file) g (functionIn file g) start arrows ≡ leftFrom (programIn file) g (functionIn file g) (j + 1) arrows) × (start < j + 1)
+    pub line-end : (ins : Instruction) → slot j (functionIn file g .code) ≡ some ins → (m : Maker) → MakerIs (payload file) ins m
+        → m .makes ≡ false → ((x : ℕ) → ins ≡ Load x → ⊥)
+        → ((arrows : List (Arrow Shape)) → first (arriving start arrows) ≡ some from
+        → leftFrom (programIn file) g (functionIn file g) start arrows ≡ leftFrom (programIn file) g (functionIn file g) (j + 1) arrows)
+        × (start < j + 1)
     unfolding shapeFrom
     line-end ins e m k z other = ((λ arrows h. l .left arrows h ∙ ends ins e m k z other arrows), (let b = l .behind in omega arith))
       where
-        stops : (ins : Instruction) → slot j (functionIn file g .code) ≡ some ins → shapeFrom (programIn file) g (functionIn file g) j ins (l .shape) ≡ found [] → (arrows : List (Arrow Shape))
-            → leftFrom (programIn file) g (functionIn file g) j ((j, l .shape) ∷ arrows) ≡ leftFrom (programIn file) g (functionIn file g) (j + 1) arrows
+        stops : (ins : Instruction) → slot j (functionIn file g .code) ≡ some ins
+            → shapeFrom (programIn file) g (functionIn file g) j ins (l .shape) ≡ found [] → (arrows : List (Arrow Shape))
+            → leftFrom (programIn file) g (functionIn file g) j ((j, l .shape) ∷ arrows)
+            ≡ leftFrom (programIn file) g (functionIn file g) (j + 1) arrows
         stops ins e h arrows =
             rw (add-one j)
-            (outcome-goes (shapeRule (programIn file) g (functionIn file g)) (functionIn file g .code) j ((j, l .shape) ∷ arrows) e (l .shape) [] (first-put j j (l .shape) arrows ∙ rw (eq-eqb j j refl))
+            (outcome-goes (shapeRule (programIn file) g (functionIn file g)) (functionIn file g .code) j ((j, l .shape) ∷ arrows) e
+            (l .shape) [] (first-put j j (l .shape) arrows ∙ rw (eq-eqb j j refl))
             (line-rule g (l .line) j ins ∙ h)
-            ∙ outcome-alike (shapeRule (programIn file) g (functionIn file g)) (functionIn file g .code) (suc j) ((j, l .shape) ∷ arrows) arrows (alike-past (suc j) j (l .shape) arrows (omega arith)))
+            ∙ outcome-alike (shapeRule (programIn file) g (functionIn file g)) (functionIn file g .code) (suc j) ((j, l .shape) ∷ arrows)
+            arrows (alike-past (suc j) j (l .shape) arrows (omega arith)))
 
-        ends : (ins : Instruction) → slot j (functionIn file g .code) ≡ some ins → (m : Maker) → MakerIs (payload file) ins m → m .makes ≡ false → ((x : ℕ) → ins ≡ Load x → ⊥) → (arrows : List (Arrow Shape))
-            → leftFrom (programIn file) g (functionIn file g) j ((j, l .shape) ∷ arrows) ≡ leftFrom (programIn file) g (functionIn file g) (j + 1) arrows
+        ends : (ins : Instruction) → slot j (functionIn file g .code) ≡ some ins → (m : Maker) → MakerIs (payload file) ins m
+            → m .makes ≡ false → ((x : ℕ) → ins ≡ Load x → ⊥) → (arrows : List (Arrow Shape))
+            → leftFrom (programIn file) g (functionIn file g) j ((j, l .shape) ∷ arrows)
+            ≡ leftFrom (programIn file) g (functionIn file g) (j + 1) arrows
         ends (Load x) e m k z other arrows = absurd (other x refl)
         ends (Build c) e m k z other arrows = absurd (false-true (sym z ∙ k .makes))
         ends (Call c) e m k z other arrows = absurd (false-true (sym z ∙ k .makes))
@@ -240,12 +268,14 @@ module _ {file : List ℕ} {n : ℕ} {ts : Tables} {g : ℕ} {r : Routine} {star
       pub high : m .arity ≤ height
       pub bound : BoundRight (m .bound)
       pub symbol : Symbol
-      pub rule : shapeFrom (programIn file) g (functionIn file g) j ins (l .shape) ≡ enter (programIn file) g (functionIn file g) j (l .shape) (m .arity) symbol
+      pub rule : shapeFrom (programIn file) g (functionIn file g) j ins (l .shape)
+          ≡ enter (programIn file) g (functionIn file g) j (l .shape) (m .arity) symbol
       pub form : formOf (programIn file) (entered g (l .line) (m .arity) symbol)
           ≡ intoBound (boundIn (m .arity) (m .bound)) (map formIn (take (m .arity) (drop (height - m .arity) stack)))
-      pub next : At (programIn file) g (functionIn file g) (suc j) (height - m .arity + 1) true
+      pub next : ReachedAt (programIn file) g (functionIn file g) (suc j) (height - m .arity + 1) true
 
-    pub line-making : (ins : Instruction) → slot j (functionIn file g .code) ≡ some ins → (m : Maker) → MakerIs (payload file) ins m → m .makes ≡ true → Making ins m
+    pub line-making : (ins : Instruction) → slot j (functionIn file g .code) ≡ some ins → (m : Maker) → MakerIs (payload file) ins m
+        → m .makes ≡ true → Making ins m
     unfolding shapeFrom
     line-making (Load x) e m k z = absurd (false-true (sym k ∙ z))
     line-making (Build c) e m k z =
@@ -259,7 +289,9 @@ module _ {file : List ℕ} {n : ℕ} {ts : Tables} {g : ℕ} {r : Routine} {star
           bound = one-right (m .bound) (y .0 .weight) (light (a .walking) c (y .0) (y .1)) (k .one) (k .long) row;
           symbol = built c;
           rule = rw (y .1);
-          form = build-form g (l .line) c (y .0) (y .1) (y .2) ∙ sym (one-row (length (y .0 .arguments)) (y .0 .weight) (m .bound) _ (q .1) (k .one) (k .long) row);
+          form =
+              build-form g (l .line) c (y .0) (y .1) (y .2)
+              ∙ sym (one-row (length (y .0 .arguments)) (y .0 .weight) (m .bound) _ (q .1) (k .one) (k .long) row);
           next = y .3;
         })
     line-making (Call c) e m k z =
@@ -267,7 +299,8 @@ module _ {file : List ℕ} {n : ℕ} {ts : Tables} {g : ℕ} {r : Routine} {star
         let q = function-named (a .walking) c (y .0) (y .1) in
         let n-is : m .arity ≡ arity (y .0) = k .arity ∙ sym (ap (λ (h : Function). arity h) (q .1) ∙ arity-is (a .walking) c (q .0)) in
         let b-is : y .0 .bound ≡ boundIn (arity (y .0)) (m .bound) =
-        ap (λ (h : Function). h .bound) (q .1) ∙ sym (bound-is (a .walking) c (q .0) (m .bound) (k .bound)) ∙ ap (λ (i : ℕ). boundIn i (m .bound)) (sym (k .arity) ∙ n-is) in
+        ap (λ (h : Function). h .bound) (q .1) ∙ sym (bound-is (a .walking) c (q .0) (m .bound) (k .bound))
+        ∙ ap (λ (i : ℕ). boundIn i (m .bound)) (sym (k .arity) ∙ n-is) in
         rw n-is (record {
           few = rw (q .1) (few-parameters (a .walking) c (q .0));
           high = y .2;
@@ -287,7 +320,7 @@ module _ {file : List ℕ} {n : ℕ} {ts : Tables} {g : ℕ} {r : Routine} {star
       pub line-from : (height - m .arity < 16) × (height - m .arity ≤ height)
       line-from = let z = at-low (a .walking) (a .there) (k .next) in (omega arith, omega arith)
 
-      pub line-arguments : Arguments (topFour stack (height - m .arity)) (m .arity)
+      pub line-arguments : ArgumentForms (topFour stack (height - m .arity)) (m .arity)
       line-arguments = record {
         few = k .few;
         long = refl;
@@ -296,16 +329,19 @@ module _ {file : List ℕ} {n : ℕ} {ts : Tables} {g : ℕ} {r : Routine} {star
       }
 
       -- x: what the code makes of them
-      module _ (x : Form) (mk : Made x (intoBound (boundIn (m .arity) (m .bound)) (argumentsIn (topFour stack (height - m .arity)) (m .arity)))) where
-        made : Made x (intoBound (boundIn (m .arity) (m .bound)) (map formIn (take (m .arity) (drop (height - m .arity) stack))))
+      module _ (x : Form)
+          (mk : FormMade x (intoBound (boundIn (m .arity) (m .bound)) (argumentsIn (topFour stack (height - m .arity)) (m .arity)))) where
+        made : FormMade x (intoBound (boundIn (m .arity) (m .bound)) (map formIn (take (m .arity) (drop (height - m .arity) stack))))
         made =
             let z = l .line .long in let y = l .line .high in let u = k .high in
             rw (← top-taken stack (height - m .arity) (m .arity) (k .few) (omega arith)) mk
 
-        pub line-large : x .count ≡ 0 → (arrows : List (Arrow Shape)) → first (arriving start arrows) ≡ some from → leftFrom (programIn file) g (functionIn file g) start arrows ≡ refused (refusal 9 g j)
+        pub line-large : x .count ≡ 0 → (arrows : List (Arrow Shape)) → first (arriving start arrows) ≡ some from
+            → leftFrom (programIn file) g (functionIn file g) start arrows ≡ refused (refusal 9 g j)
         line-large z arrows e =
             l .left arrows e
-            ∙ outcome-refused (shapeRule (programIn file) g (functionIn file g)) (functionIn file g .code) j ((j, l .shape) ∷ arrows) is (l .shape) (refusal 9 g j) (first-put j j (l .shape) arrows ∙ rw (eq-eqb j j refl))
+            ∙ outcome-refused (shapeRule (programIn file) g (functionIn file g)) (functionIn file g .code) j ((j, l .shape) ∷ arrows) is
+            (l .shape) (refusal 9 g j) (first-put j j (l .shape) arrows ∙ rw (eq-eqb j j refl))
             (line-rule g (l .line) j ins ∙ k .rule
             ∙ enter-large g (l .line) j (m .arity) (k .symbol) (k .high) _ (k .form) x made z)
 
@@ -316,7 +352,9 @@ module _ {file : List ℕ} {n : ℕ} {ts : Tables} {g : ℕ} {r : Routine} {star
               on ins (enteredShape g (l .line) (m .arity) (k .symbol)) arrows is
               (k .rule ∙ enter-goes g (l .line) j (m .arity) (k .symbol) (k .high) _ (k .form) x made some-made)
 
-          pub line-uncovered : covers (formIn own) (formIn x) ≡ false → (arrows : List (Arrow Shape)) → first (arriving start arrows) ≡ some from → leftFrom (programIn file) g (functionIn file g) start arrows ≡ refused (refusal 10 g (j + 1))
+          pub line-uncovered : covers (formIn own) (formIn x) ≡ false → (arrows : List (Arrow Shape))
+              → first (arriving start arrows) ≡ some from
+              → leftFrom (programIn file) g (functionIn file g) start arrows ≡ refused (refusal 10 g (j + 1))
           line-uncovered z arrows e =
               let there = at-some (a .walking) (a .there) (k .next) in
               rw (add-one j)
@@ -327,7 +365,8 @@ module _ {file : List ℕ} {n : ℕ} {ts : Tables} {g : ℕ} {r : Routine} {star
               (first-put (suc j) (suc j) (enteredShape g (l .line) (m .arity) (k .symbol)) arrows ∙ rw (eq-eqb (suc j) (suc j) refl))
               (enter-refused g (l .line) j (m .arity) (k .symbol) (k .high) _ (k .form) x made some-made z (suc j) (there .0)))
 
-          pub line-made : covers (formIn own) (formIn x) ≡ true → LineGoes file g start from own (set stack (height - m .arity) x) (height - m .arity + 1) (j + 1)
+          pub line-made : covers (formIn own) (formIn x) ≡ true
+              → LineGoes file g start from own (set stack (height - m .arity) x) (height - m .arity + 1) (j + 1)
           line-made z =
               next-goes (enteredShape g (l .line) (m .arity) (k .symbol)) (set stack (height - m .arity) x) (height - m .arity + 1) true
               (enter-line g (l .line) j (m .arity) (k .symbol) (k .high) _ (k .form) x made some-made (line-from .0) z) (k .next) refl goes

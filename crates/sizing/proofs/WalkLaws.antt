@@ -32,7 +32,8 @@ module _ {S : Type 0} where
   arriving-else j t x A n = rw (ne-eqb t j (λ e. n (sym e)))
 
   -- an arrow to t on top: what arrives first
-  pub first-put : (j t : ℕ) (x : S) (A : List (Arrow S)) → first (arriving j ((t, x) ∷ A)) ≡ (if eqb j t then some x else first (arriving j A))
+  pub first-put : (j t : ℕ) (x : S) (A : List (Arrow S))
+      → first (arriving j ((t, x) ∷ A)) ≡ (if eqb j t then some x else first (arriving j A))
   first-put j t x A = go (eqb j t) refl
     where
       go : (b : Bool) → eqb j t ≡ b → first (arriving j ((t, x) ∷ A)) ≡ (if b then some x else first (arriving j A))
@@ -72,16 +73,21 @@ module _ {S : Type 0} where
     abbrev onward : List Instruction → ℕ → List (Arrow S) → Tried (List (Arrow S)) → Tried (List (List S))
     onward code i A t = t >>= λ leaving. walk (visited rule) (suc i) (leaving ++ A) code >>= λ later. found (arriving i A ∷ later)
 
-    walk-alike : (code : List Instruction) (i : ℕ) (A B : List (Arrow S)) → Alike i A B → only (walk (visited rule) i A code) ≡ only (walk (visited rule) i B code)
+    walk-alike : (code : List Instruction) (i : ℕ) (A B : List (Arrow S)) → Alike i A B
+        → only (walk (visited rule) i A code) ≡ only (walk (visited rule) i B code)
     unfolding walk
     walk-alike [] i A B h = refl
     walk-alike (ins ∷ code) i A B h =
         ap (λ (t : Tried (List (Arrow S))). only (onward code i A t)) (by-first i ins (arriving i A) (arriving i B) (h i (omega arith)))
-        ∙ go (visited rule i ins (arriving i B)) (λ L. walk-alike code (suc i) (L ++ A) (L ++ B) (alike-append L (suc i) A B (λ j l. h j (omega arith))))
+        ∙ go (visited rule i ins (arriving i B))
+        (λ L. walk-alike code (suc i) (L ++ A) (L ++ B) (alike-append L (suc i) A B (λ j l. h j (omega arith))))
       where
-        go : (t : Tried (List (Arrow S))) → ((L : List (Arrow S)) → only (walk (visited rule) (suc i) (L ++ A) code) ≡ only (walk (visited rule) (suc i) (L ++ B) code))
+        go : (t : Tried (List (Arrow S))) → ((L : List (Arrow S))
+            → only (walk (visited rule) (suc i) (L ++ A) code) ≡ only (walk (visited rule) (suc i) (L ++ B) code))
             → only (onward code i A t) ≡ only (onward code i B t)
-        go (found L) ih = only-later (arriving i A) (walk (visited rule) (suc i) (L ++ A) code) ∙ ih L ∙ sym (only-later (arriving i B) (walk (visited rule) (suc i) (L ++ B) code))
+        go (found L) ih =
+            only-later (arriving i A) (walk (visited rule) (suc i) (L ++ A) code) ∙ ih L
+            ∙ sym (only-later (arriving i B) (walk (visited rule) (suc i) (L ++ B) code))
         go (refused r) ih = refl
 
     module _ (code : List Instruction) where
@@ -98,10 +104,12 @@ module _ {S : Type 0} where
       unfolding outcome
       outcome-suc i A = let z : suc i - 1 ≡ i = omega arith in ap (λ (k : ℕ). only (walk (visited rule) (suc i) A (drop k code))) z
 
-      outcome-step : (i : ℕ) (A : List (Arrow S)) {ins : Instruction} → slot i code ≡ some ins → outcome rule code i A ≡ only (onward (drop i code) i A (visited rule i ins (arriving i A)))
+      outcome-step : (i : ℕ) (A : List (Arrow S)) {ins : Instruction} → slot i code ≡ some ins
+          → outcome rule code i A ≡ only (onward (drop i code) i A (visited rule i ins (arriving i A)))
       unfolding walk
       outcome-step zero A e = absurd (none-some e)
-      outcome-step (suc k) A e = outcome-suc k A ∙ ap (λ (l : List Instruction). only (walk (visited rule) (suc k) A l)) (drop-element code k e)
+      outcome-step (suc k) A e =
+          outcome-suc k A ∙ ap (λ (l : List Instruction). only (walk (visited rule) (suc k) A l)) (drop-element code k e)
 
       module _ (i : ℕ) (A : List (Arrow S)) {ins : Instruction} (at : slot i code ≡ some ins) where
         by-state : {x : S} → first (arriving i A) ≡ some x → visited rule i ins (arriving i A) ≡ rule i ins x
@@ -110,13 +118,17 @@ module _ {S : Type 0} where
         -- nothing arrives
         pub outcome-skipped : first (arriving i A) ≡ none → outcome rule code i A ≡ outcome rule code (suc i) A
         outcome-skipped e =
-            outcome-step i A at ∙ ap (λ (t : Tried (List (Arrow S))). only (onward (drop i code) i A t)) (by-first i ins (arriving i A) [] e)
+            outcome-step i A at ∙ ap (λ (t : Tried (List (Arrow S))). only (onward (drop i code) i A t))
+            (by-first i ins (arriving i A) [] e)
             ∙ only-later (arriving i A) (walk (visited rule) (suc i) A (drop i code)) ∙ sym (outcome-suc i A)
 
-        pub outcome-refused : (x : S) (r : Refusal) → first (arriving i A) ≡ some x → rule i ins x ≡ refused r → outcome rule code i A ≡ refused r
-        outcome-refused x r e h = outcome-step i A at ∙ ap (λ (t : Tried (List (Arrow S))). only (onward (drop i code) i A t)) (by-state e ∙ h)
+        pub outcome-refused : (x : S) (r : Refusal) → first (arriving i A) ≡ some x → rule i ins x ≡ refused r
+            → outcome rule code i A ≡ refused r
+        outcome-refused x r e h =
+            outcome-step i A at ∙ ap (λ (t : Tried (List (Arrow S))). only (onward (drop i code) i A t)) (by-state e ∙ h)
 
-        pub outcome-goes : (x : S) (L : List (Arrow S)) → first (arriving i A) ≡ some x → rule i ins x ≡ found L → outcome rule code i A ≡ outcome rule code (suc i) (L ++ A)
+        pub outcome-goes : (x : S) (L : List (Arrow S)) → first (arriving i A) ≡ some x → rule i ins x ≡ found L
+            → outcome rule code i A ≡ outcome rule code (suc i) (L ++ A)
         outcome-goes x L e h =
             outcome-step i A at ∙ ap (λ (t : Tried (List (Arrow S))). only (onward (drop i code) i A t)) (by-state e ∙ h)
             ∙ only-later (arriving i A) (walk (visited rule) (suc i) (L ++ A) (drop i code)) ∙ sym (outcome-suc i (L ++ A))

@@ -11,7 +11,7 @@ use Rattle.rules.specs.Flow.{flowOf}
 use Rattle.rules.specs.Types.{typesOf}
 
 -- instruction i of function g is reached, with a stack of this height, and a build or call has been passed or not
-pub record At (s : Program) (g : ℕ) (f : Function) (i height : ℕ) (past : Bool) : Type 0 where
+pub record ReachedAt (s : Program) (g : ℕ) (f : Function) (i height : ℕ) (past : Bool) : Type 0 where
   pub stack : List ℕ
   pub types : arrived (typesOf s g f) i ≡ some stack
   pub high : length stack ≡ height

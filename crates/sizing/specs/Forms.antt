@@ -10,7 +10,7 @@ use Rattle.rules.specs.Forms as forms
 use Rattle.rules.specs.Forms.{added, flatMap}
 use Rattle.sizing.specs.declared.forms.Bound.{Bound}
 use Rattle.sizing.specs.declared.forms.Form.{Form}
-use Rattle.sizing.specs.Put.{AllWide, AllBelow}
+use Rattle.sizing.specs.Put.{AllWide, AllBounded}
 
 abbrev pub formIn : Form → forms.Form
 formIn f = take (f .count) (f .alternatives)
@@ -24,10 +24,10 @@ pub record FormRight (f : Form) : Type 0 where
 pub record Entry (f : Form) : Type 0 where
   pub right : FormRight f
   pub some : 0 < f .count
-  pub below : AllBelow 15 131072 (formIn f)
+  pub below : AllBounded 15 131072 (formIn f)
 
 -- x is the form, where that has at most 16 alternatives; else x has none
-pub record Made (x : Form) (form : forms.Form) : Type 0 where
+pub record FormMade (x : Form) (form : forms.Form) : Type 0 where
   pub many : x .count ≡ 0 → 16 < length form
   pub right : 0 < x .count → FormRight x × (formIn x ≡ form)
 
@@ -61,7 +61,7 @@ pub record BoundRight (b : Bound) : Type 0 where
   pub four : length (b .rows) ≡ 4
   pub each : (i : ℕ) → i < b .count → RowRight (getD (b .rows) i noRow)
 
-pub record Arguments (arguments : List Form) (n : ℕ) : Type 0 where
+pub record ArgumentForms (arguments : List Form) (n : ℕ) : Type 0 where
   pub few : n ≤ 4
   pub long : length arguments ≡ 4
   pub entries : (i : ℕ) → i < n → Entry (getD arguments i noForm)

@@ -7,30 +7,24 @@ use Prim.Native.Nat.{ℕ, _+_, _≤_, _<_}
 use lib.ListN.{length}
 use Rattle.rules.specs.declared.answers.Checked.{Checked}
 use Rattle.rules.specs.declared.answers.Checked.the-variants as checked
-use Rattle.rules.specs.declared.records.Header.{Header}
 use Rattle.rules.specs.declared.records.Instruction.{Instruction}
-use Rattle.rules.specs.Base.{refused, Check, passed, if_then_else_, byteAt}
+use Rattle.rules.specs.Base.{refused, Check, if_then_else_, byteAt}
 use Rattle.rules.specs.Container.{payload}
 use Rattle.rules.specs.Program.{arity}
-use Rattle.rules.specs.Records.{headOffset, programOf}
-use Rattle.rules.specs.Declarations.{declarationsRight, boundsRight}
-use Rattle.rules.specs.Flow.{flowRight}
-use Rattle.rules.specs.Types.{typesRight}
+use Rattle.rules.specs.Records.{headOffset, programIn, functionIn}
 use Rattle.rules.specs.Stacks.{slot}
 use Rattle.rules.specs.Walk.{Arrow, arriving, first}
 use Rattle.rules.specs.Shapes.{Shape}
-use Rattle.rules.specs.Opened.{OpenedProgram}
 use Rattle.rules.specs.Answers.{refusalOf}
-use Rattle.tables.specs.Tables.{ConstructorRows, FunctionRows}
 use Rattle.sizing.specs.declared.paths.Saved.{Saved}
 use Rattle.sizing.specs.declared.routines.Routine.{Routine}
 use Rattle.sizing.specs.declared.walk.Moved.{Moved}
 use Rattle.sizing.specs.Right.{shapeIn, SavedRight}
 use Rattle.sizing.specs.Steps.{given}
-use Rattle.sizing.specs.Chart.{At}
+use Rattle.sizing.specs.Chart.{ReachedAt}
 use Rattle.sizing.specs.Left.{leftFrom}
-use Rattle.sizing.specs.Routines.{Tables, RoutineIs}
-use Rattle.sizing.specs.Walking.{programIn, functionIn, Walking, Makes}
+use Rattle.sizing.specs.Routines.{NameTables, RoutineIs}
+use Rattle.sizing.specs.Walking.{Walking, Makes}
 
 -- the parameters as variables
 pub record StartIs (arity : ℕ) (st : Saved) : Type 0 where
@@ -52,27 +46,27 @@ pub record StayIs (on : ℕ) (m : Moved) : Type 0 where
 -- a state of function g that is right, at an instruction that is reached with its height, before any build or call
 pub record Fit (file : List ℕ) (g i : ℕ) (st : Saved) : Type 0 where
   pub right : SavedRight (programIn file) (functionIn file g) st
-  pub at : At (programIn file) g (functionIn file g) i (st .height) false
+  pub at : ReachedAt (programIn file) g (functionIn file g) i (st .height) false
 
-pub record FunctionAsks (file : List ℕ) (n : ℕ) (t : Tables) (g : ℕ) : Type 0 where
-  pub walking : Walking file n t
+pub record FunctionAsks (file : List ℕ) (t : NameTables) (g : ℕ) : Type 0 where
+  pub walking : Walking file t
   pub there : g < byteAt (payload file) 3
 
 -- this instruction, where a state arrives
-pub record MoveAsks (file : List ℕ) (n : ℕ) (t : Tables) (g i : ℕ) (st : Saved) (ins : Instruction) : Type 0 where
-  pub function : FunctionAsks file n t g
+pub record MoveAsks (file : List ℕ) (t : NameTables) (g i : ℕ) (st : Saved) (ins : Instruction) : Type 0 where
+  pub function : FunctionAsks file t g
   pub visited : st .visited ≡ true
   pub fit : Fit file g i st
   pub is : slot i (functionIn file g .code) ≡ some ins
 
-pub record LineMoveAsks (file : List ℕ) (n : ℕ) (t : Tables) (g : ℕ) (r : Routine) (i : ℕ) (st : Saved) : Type 0 where
+pub record LineMoveAsks (file : List ℕ) (t : NameTables) (g : ℕ) (r : Routine) (i : ℕ) (st : Saved) : Type 0 where
   pub ins : Instruction
-  pub move : MoveAsks file n t g i st ins
+  pub move : MoveAsks file t g i st ins
   pub makes : Makes ins
   pub routine : RoutineIs (payload file) (headOffset (payload file) g) r
 
-pub record StepAsks (file : List ℕ) (n : ℕ) (t : Tables) (g : ℕ) (r : Routine) (i : ℕ) (st : Saved) : Type 0 where
-  pub function : FunctionAsks file n t g
+pub record StepAsks (file : List ℕ) (t : NameTables) (g : ℕ) (r : Routine) (i : ℕ) (st : Saved) : Type 0 where
+  pub function : FunctionAsks file t g
   pub routine : RoutineIs (payload file) (headOffset (payload file) g) r
   pub some-i : 1 ≤ i
   pub last : i ≤ r .last
@@ -90,7 +84,8 @@ leaving n m = given (m .next .visited) (m .near, shapeIn n (m .next)) (given (m 
 
 -- what is left of the walk behind a step that passed
 abbrev pub moveLeft : List ℕ → ℕ → Moved → Checked → List (Arrow Shape) → Check
-moveLeft file g m checked.Right arrows = leftFrom (programIn file) g (functionIn file g) (m .on) (leaving (arity (functionIn file g)) m ++ arrows)
+moveLeft file g m checked.Right arrows =
+    leftFrom (programIn file) g (functionIn file g) (m .on) (leaving (arity (functionIn file g)) m ++ arrows)
 moveLeft file g m (checked.Refused why) arrows = refused (refusalOf why)
 
 -- where the states go
@@ -106,15 +101,3 @@ pub record StepSays (file : List ℕ) (g i : ℕ) (st : Saved) (m : Moved) : Typ
   pub left : (arrows : List (Arrow Shape)) → first (arriving i arrows) ≡ standing (arity (functionIn file g)) st
       → leftFrom (programIn file) g (functionIn file g) i arrows ≡ moveLeft file g m (m .checked) arrows
   pub lands : m .checked ≡ checked.Right → Lands file g i m
-
----- All functions
-
--- 4 to 8 have passed, and constructors and functions are in tables
-pub record SizesAsk (file : List ℕ) (n : ℕ) (header : Header) (heads : List ℕ) (constructors functions : List (List ℕ)) : Type 0 where
-  pub program : OpenedProgram file n header heads
-  pub constructor : ConstructorRows (payload file) (header .constructors) constructors
-  pub function : FunctionRows (payload file) (header .functions) functions
-  pub declarations : declarationsRight (programOf (payload file)) ≡ passed
-  pub bounds : boundsRight (programOf (payload file)) ≡ passed
-  pub flow : flowRight (programOf (payload file)) ≡ passed
-  pub types : typesRight (programOf (payload file)) ≡ passed

@@ -28,11 +28,11 @@ abbrev pub AllWide : Form → Type 0
 AllWide form = All Wide form
 
 -- no coefficient passes m, and the constant does not carry k
-abbrev pub Below : ℕ → ℕ → Alternative → Type 0
-Below m k a = Wide a × ((i : ℕ) → coefficient a i ≤ m) × (a .constant ≤ k)
+abbrev pub Bounded : ℕ → ℕ → Alternative → Type 0
+Bounded m k a = Wide a × ((i : ℕ) → coefficient a i ≤ m) × (a .constant ≤ k)
 
-abbrev pub AllBelow : ℕ → ℕ → Form → Type 0
-AllBelow m k form = All (Below m k) form
+abbrev pub AllBounded : ℕ → ℕ → Form → Type 0
+AllBounded m k form = All (Bounded m k) form
 
 -- these coefficients for the variables from k on, and a constant
 unfoldable pub widened : ℕ → List ℕ → ℕ → Alternative

@@ -12,7 +12,7 @@ use Rattle.rules.specs.Shapes.{Shape}
 use Rattle.sizing.specs.declared.splits.Split.{Split}
 use Rattle.sizing.specs.declared.paths.Saved.{Saved}
 use Rattle.sizing.specs.declared.forms.Form.{Form}
-use Rattle.sizing.specs.Put.{AllBelow}
+use Rattle.sizing.specs.Put.{AllBounded}
 use Rattle.sizing.specs.Splits.{carried, SplitsRight, Numbered, shapeOf}
 use Rattle.sizing.specs.Spare.{Spare}
 use Rattle.sizing.specs.States.{stackIn, splitsIn}
@@ -54,7 +54,7 @@ pub record Held (own x : Form) : Type 0 where
 -- after the first build or call: the forms of a shape's stack, and the own bound at its parameters
 pub record LineRight (s : Program) (f : Function) (sh : Shape) (own : Form) (stack : List Form) (height : ℕ) : Type 0 where
   pub bound : FormRight own
-  pub most : AllBelow 15 131072 (formIn own)
+  pub most : AllBounded 15 131072 (formIn own)
   pub shaped : formIn own ≡ intoBound (f .bound) (map (formOf s) (sh .parameters))
   pub long : length stack ≡ 20
   pub high : height ≤ 16

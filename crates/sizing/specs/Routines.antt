@@ -10,7 +10,8 @@ use Rattle.rules.specs.declared.records.Instruction.the-variants.{Load, Build, 
 use Rattle.rules.specs.Base.{byteAt, wordAt}
 use Rattle.rules.specs.Container.{payload}
 use Rattle.rules.specs.Records.{alternativeAt, constructorOffset, alternativeOffset, codeOffset, headOffset}
-use Rattle.rules.specs.Opened.{Opened, RecordsThere}
+use Rattle.rules.specs.There.{RecordsThere}
+use Rattle.rules.specs.Established.{Verified}
 use Rattle.tables.specs.Tables.{alternativeIn, ConstructorRows, FunctionRows, AlternativeRows}
 use Rattle.sizing.specs.declared.forms.Bound.{Bound}
 use Rattle.sizing.specs.declared.routines.Routine.{Routine}
@@ -18,13 +19,13 @@ use Rattle.sizing.specs.declared.routines.Maker.{Maker}
 use Rattle.sizing.specs.Forms.{noRow}
 
 -- the tables that the walk looks things up in
-pub record Tables : Type 0 where
+pub record NameTables : Type 0 where
   pub constructors : List (List ℕ)
   pub functions : List (List ℕ)
   pub alternatives : List (List ℕ)
 
-abbrev pub tables : List (List ℕ) → List (List ℕ) → List (List ℕ) → Tables
-tables constructors functions alternatives = record { constructors = constructors; functions = functions; alternatives = alternatives }
+abbrev pub nameTables : List (List ℕ) → List (List ℕ) → List (List ℕ) → NameTables
+nameTables constructors functions alternatives = record { constructors = constructors; functions = functions; alternatives = alternatives }
 
 ---- What is looked up
 
@@ -72,8 +73,8 @@ OperandThere bytes Return = Unit {0}
 OperandThere bytes Stop = Unit {0}
 
 -- records that are right, and their tables
-pub record Records (file : List ℕ) (n : ℕ) (t : Tables) : Type 0 where
-  pub opened : Opened file n
+pub record Records (file : List ℕ) (t : NameTables) : Type 0 where
+  pub verified : Verified file
   pub bytes : (k : ℕ) → getD file k 0 < 256
   pub there : RecordsThere (payload file)
   pub few-constructors : byteAt (payload file) 2 ≤ 64
@@ -82,11 +83,11 @@ pub record Records (file : List ℕ) (n : ℕ) (t : Tables) : Type 0 where
   pub function : FunctionRows (payload file) (byteAt (payload file) 3) (t .functions)
   pub alternative : AlternativeRows (payload file) (byteAt (payload file) 3) (t .alternatives)
 
-abbrev pub RoutineAsks : List ℕ → ℕ → Tables → ℕ → Type 0
-RoutineAsks file n t g = Records file n t × (g < byteAt (payload file) 3)
+abbrev pub RoutineAsks : List ℕ → NameTables → ℕ → Type 0
+RoutineAsks file t g = Records file t × (g < byteAt (payload file) 3)
 
-pub record MakerAsks (file : List ℕ) (n : ℕ) (t : Tables) (ins : Instruction) : Type 0 where
-  pub records : Records file n t
+pub record MakerAsks (file : List ℕ) (t : NameTables) (ins : Instruction) : Type 0 where
+  pub records : Records file t
   pub operand : OperandThere (payload file) ins
 
 -- a build, by its constructor's row

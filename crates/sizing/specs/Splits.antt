@@ -63,7 +63,8 @@ Whole v (p ∷ ps) = (v ≡ p .variable → ⊥) × Whole v ps
 
 -- the shape that a stack of variables stands for
 abbrev pub shapeOf : ℕ → List Split → ℕ → List ℕ → Shape
-shapeOf n ps count stack = record { parameters = map (through ps) (variables 0 n); count = count; stack = map (λ v. through ps (variableE v)) stack }
+shapeOf n ps count stack =
+    record { parameters = map (through ps) (variables 0 n); count = count; stack = map (λ v. through ps (variableE v)) stack }
 
 -- n variables have come up and stand in the alternative, with coefficients of at most 15; the splits come after
 pub record Tidy (n k : ℕ) (a : Alternative) : Type 0 where

@@ -36,7 +36,8 @@ pub record BranchAsks (st : Saved) (c parts : ℕ) : Type 0 where
   pub long : length (st .stack) ≡ 16
   pub list : length (st .list) ≡ 16
   pub count : st .count ≤ 16
-  pub each : (j : ℕ) → j < st .taken → getD (st .list) j noSplit .constructor ≡ c → (getD (st .list) j noSplit .parts ≡ parts) × (getD (st .list) j noSplit .first + parts ≤ 16)
+  pub each : (j : ℕ) → j < st .taken → getD (st .list) j noSplit .constructor ≡ c → (getD (st .list) j noSplit .parts ≡ parts)
+      × (getD (st .list) j noSplit .first + parts ≤ 16)
 
 -- an arrow where the state is visited
 abbrev pub given : {A : Type 0} → Bool → A → List A → List A
@@ -55,7 +56,8 @@ pub record BranchSays (s : Program) (n : ℕ) (f : Function) (i b c parts : ℕ)
 -- for every program that the state stands for
 abbrev pub Branching : Saved → ℕ → ℕ → ℕ → Branched → Type 0
 Branching st c parts weight r =
-    (s : Program) (n : ℕ) (f : Function) (i b : ℕ) (k : Constructor) → SavedRight s f st → st .visited ≡ true → constructor s c ≡ some k → parts ≡ length (k .arguments) → weight ≡ k .weight
+    (s : Program) (n : ℕ) (f : Function) (i b : ℕ) (k : Constructor) → SavedRight s f st → st .visited ≡ true → constructor s c ≡ some k
+    → parts ≡ length (k .arguments) → weight ≡ k .weight
     → BranchSays s n f i b c parts st r
 
 -- each variable of the stack can be taken through the splits

@@ -6,39 +6,28 @@ use mathlib.Core.Bool.{false}
 use Prim.Native.Nat.{ℕ, _<_}
 use Rattle.rules.specs.declared.records.Instruction.{Instruction}
 use Rattle.rules.specs.declared.records.Instruction.the-variants.{Load, Build, Call, Branch, Return, Stop}
-use Rattle.rules.specs.Base.{refused, Check, passed, byteAt}
+use Rattle.rules.specs.Base.{refused, Check, byteAt}
 use Rattle.rules.specs.Container.{payload}
-use Rattle.rules.specs.Program.{Function, Program, arity}
-use Rattle.rules.specs.Records.{headOffset, functionOf, programOf}
-use Rattle.rules.specs.Declarations.{boundsRight}
-use Rattle.rules.specs.Flow.{flowRight}
-use Rattle.rules.specs.Types.{typesRight}
+use Rattle.rules.specs.Program.{arity}
+use Rattle.rules.specs.Records.{headOffset, programIn, functionIn}
 use Rattle.rules.specs.Stacks.{slot}
 use Rattle.rules.specs.Walk.{Arrow, arriving, first}
 use Rattle.rules.specs.Shapes.{Shape}
 use Rattle.rules.specs.Answers.{refusalOf}
+use Rattle.rules.specs.Established.{Typechecked}
 use Rattle.sizing.specs.declared.routines.Routine.{Routine}
 use Rattle.sizing.specs.declared.paths.Saved.{Saved}
 use Rattle.sizing.specs.declared.line.Straight.{Straight}
 use Rattle.sizing.specs.declared.line.Straight.the-variants.{Ends, Refused}
 use Rattle.sizing.specs.Right.{shapeIn, SavedRight}
-use Rattle.sizing.specs.Chart.{At}
+use Rattle.sizing.specs.Chart.{ReachedAt}
 use Rattle.sizing.specs.Left.{leftFrom}
-use Rattle.sizing.specs.Routines.{Tables, Records, RoutineIs}
+use Rattle.sizing.specs.Routines.{NameTables, Records, RoutineIs}
 
-abbrev pub programIn : List ℕ → Program
-programIn file = programOf (payload file)
-
--- function g of a file
-abbrev pub functionIn : List ℕ → ℕ → Function
-functionIn file g = functionOf (payload file) (headOffset (payload file) g)
-
--- records that are right, and 6, 7 and 8 hold
-pub record Walking (file : List ℕ) (n : ℕ) (t : Tables) : Type 0 where
-  pub records : Records file n t
-  pub bounds : boundsRight (programIn file) ≡ passed
-  pub flow : flowRight (programIn file) ≡ passed
-  pub types : typesRight (programIn file) ≡ passed
+-- tables of a file that has passed 1 to 8
+pub record Walking (file : List ℕ) (t : NameTables) : Type 0 where
+  pub records : Records file t
+  pub typechecked : Typechecked file
 
 ---- The straight line from a first build or call on
 
@@ -50,11 +39,11 @@ Makes (Branch c b) = ⊥
 Makes Return = ⊥
 Makes Stop = ⊥
 
-pub record LineAsks (file : List ℕ) (n : ℕ) (t : Tables) (g : ℕ) (r : Routine) (start : ℕ) (st : Saved) : Type 0 where
-  pub walking : Walking file n t
+pub record LineAsks (file : List ℕ) (t : NameTables) (g : ℕ) (r : Routine) (start : ℕ) (st : Saved) : Type 0 where
+  pub walking : Walking file t
   pub there : g < byteAt (payload file) 3
   pub routine : RoutineIs (payload file) (headOffset (payload file) g) r
-  pub at : At (programIn file) g (functionIn file g) start (st .height) false
+  pub at : ReachedAt (programIn file) g (functionIn file g) start (st .height) false
   pub makes : (ins : Instruction) → slot start (functionIn file g .code) ≡ some ins → Makes ins
   pub right : SavedRight (programIn file) (functionIn file g) st
 

@@ -4,8 +4,9 @@ ghost use mathlib.Core.List.{[], _∷_, _++_};
 ghost use Prim.Native.Nat.{_+_, _≤_, _<_};
 ghost use lib.ListN.{take};
 ghost use Rattle.rules.specs.Forms.{constantOnly, variableOnly, added, substituted, intoBound};
-ghost use Rattle.sizing.specs.Put.{Below, AllBelow, Wide};
-ghost use Rattle.sizing.specs.Forms.{formIn, FormRight, Single, Entry, Made, choices, RowRight, BoundRight, Arguments, argumentsIn, boundIn};
+ghost use Rattle.sizing.specs.Put.{Bounded, AllBounded, Wide};
+ghost use Rattle.sizing.specs.Forms.{formIn, FormRight, Single, Entry, FormMade, choices, RowRight, BoundRight, ArgumentForms};
+ghost use Rattle.sizing.specs.Forms.{argumentsIn, boundIn};
 use rules::records::Alternative;
 use rules::records::AlternativeRecord;
 
@@ -73,7 +74,7 @@ pub fn single(a: Alternative) -> Form
 
 // a and m times b.
 pub fn plus(m: u16, b: Alternative, a: Alternative) -> Alternative
-    requires { ⌜ (m ≤ 15) × Below 15 131072 b × Below 32768 16777216 a ⌝ }
+    requires { ⌜ (m ≤ 15) × Bounded 15 131072 b × Bounded 32768 16777216 a ⌝ }
     ensures { λ r. ⌜ r ≡ added m b a ⌝ }
 {
     let mut r = a;
@@ -88,8 +89,8 @@ pub fn plus(m: u16, b: Alternative, a: Alternative) -> Alternative
 
 // Every choice: an alternative of rest with m times one of form. None where there are more than 16.
 pub fn chosen(m: u16, form: Form, rest: Form) -> Form
-    requires { ⌜ (m ≤ 15) × Entry form × FormRight rest × (0 < rest .count) × AllBelow 32768 16777216 (formIn rest) × (0 < m) ⌝ }
-    ensures { λ x. ⌜ Made x (choices m (formIn form) (formIn rest)) ⌝ }
+    requires { ⌜ (m ≤ 15) × Entry form × FormRight rest × (0 < rest .count) × AllBounded 32768 16777216 (formIn rest) × (0 < m) ⌝ }
+    ensures { λ x. ⌜ FormMade x (choices m (formIn form) (formIn rest)) ⌝ }
 {
     let mut x = no_form();
     let k = rest.count;
@@ -111,8 +112,8 @@ pub fn chosen(m: u16, form: Form, rest: Form) -> Form
 // The forms of n arguments put into an alternative of a bound, where an argument with coefficient 0 has no part; none where there
 // are more than 16. Most forms have one alternative, and one is put into one in place: copying forms is what takes time.
 pub fn substitute(row: AlternativeRecord, n: usize, arguments: [Form; 4]) -> Form
-    requires { ⌜ RowRight row × Arguments arguments n ⌝ }
-    ensures { λ x. ⌜ Made x (substituted (take n (row .coefficients)) (row .constant) (argumentsIn arguments n)) ⌝ }
+    requires { ⌜ RowRight row × ArgumentForms arguments n ⌝ }
+    ensures { λ x. ⌜ FormMade x (substituted (take n (row .coefficients)) (row .constant) (argumentsIn arguments n)) ⌝ }
 {
     let mut rest = constant_form(row.constant as u32);
     let mut t = n;
@@ -159,8 +160,8 @@ pub fn joined(r: Form, y: Form) -> Form
 
 // The forms of n arguments put into a bound; none where there are more than 16. A build has one row, and nothing is joined then.
 pub fn into_bound(bound: Bound, n: usize, arguments: [Form; 4]) -> Form
-    requires { ⌜ BoundRight bound × Arguments arguments n ⌝ }
-    ensures { λ x. ⌜ Made x (intoBound (boundIn n bound) (argumentsIn arguments n)) ⌝ }
+    requires { ⌜ BoundRight bound × ArgumentForms arguments n ⌝ }
+    ensures { λ x. ⌜ FormMade x (intoBound (boundIn n bound) (argumentsIn arguments n)) ⌝ }
 {
     let k = bound.count;
     if k == 1 {

@@ -3,7 +3,7 @@ ghost use mathlib.Core.Path.{_≡_};
 ghost use Rattle.sizing.specs.Put.{widened};
 ghost use Rattle.sizing.specs.Forms.{RowRight};
 ghost use Rattle.sizing.specs.Steps.{FormsAsks, FormsAre, OwnAsks, OwnIs};
-ghost use Rattle.sizing.specs.Routines.{tables};
+ghost use Rattle.sizing.specs.Routines.{nameTables};
 ghost use Rattle.sizing.specs.Walking.{LineAsks, LineSays};
 use crate::cover::covered_by;
 use crate::forms::Bound;
@@ -17,8 +17,9 @@ use crate::routines::Routine;
 use crate::routines::maker_of;
 use crate::splits::Splits;
 use crate::splits::carry;
-use program::instruction;
-use program::wide;
+use readers::instruction;
+use readers::instruction_offset;
+use readers::wide;
 use rules::answers::Place;
 use rules::answers::Reason;
 use rules::records::Alternative;
@@ -100,8 +101,7 @@ fn place(function: usize, instruction: usize) -> Place
 // The straight line of function g from instruction start on, a build or call. Only what is new on the stack has to be tested,
 // where it arrives: at the next instruction.
 pub fn straight_line(
-    program: &[u8],
-    n: usize,
+    file: &[u8],
     constructors: &[[u16; 9]; 64],
     functions: &[[u16; 9]; 32],
     alternatives: &[[u16; 5]; 128],
@@ -110,8 +110,8 @@ pub fn straight_line(
     start: usize,
     st: Saved,
 ) -> Straight
-    requires { ⌜ LineAsks (now program) n (tables (now constructors) (now functions) (now alternatives)) g f start st ⌝ }
-    ensures { λ r. ⌜ LineSays (now (program .entry)) g start st r ⌝ }
+    requires { ⌜ LineAsks (now file) (nameTables (now constructors) (now functions) (now alternatives)) g f start st ⌝ }
+    ensures { λ r. ⌜ LineSays (now (file .entry)) g start st r ⌝ }
 {
     let bound = f.bound;
     let list = st.list;
@@ -125,7 +125,7 @@ pub fn straight_line(
     let mut j = start;
     loop {
         let next = j + 1;
-        let ins = instruction(program, n, f.base + 4 * (j - 1));
+        let ins = instruction(file, instruction_offset(f.base, j - 1));
         let m = maker_of(constructors, functions, alternatives, ins);
         if !m.makes {
             let Instruction::Load(a) = ins else {

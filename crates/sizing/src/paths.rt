@@ -77,7 +77,8 @@ pub fn load_variable(st: Saved, k: usize) -> Saved
 // The variables first, first + 1, .. in number parts, in place of the top.
 pub fn push_parts(st: Saved, first: u8, parts: u8) -> Saved
     requires { ⌜ (0 < st .height) × (st .height + parts ≤ 17) × (first + parts ≤ 16) × (length (st .stack) ≡ 16) ⌝ }
-    ensures { λ r. ⌜ SameSplits st r × (r .height ≡ st .height - 1 + parts) × (stackIn r ≡ take (st .height - 1) (st .stack) ++ upFrom first parts) ⌝ }
+    ensures { λ r. ⌜ SameSplits st r × (r .height ≡ st .height - 1 + parts)
+        × (stackIn r ≡ take (st .height - 1) (st .stack) ++ upFrom first parts) ⌝ }
 {
     let base = st.height - 1;
     let n = parts as usize;

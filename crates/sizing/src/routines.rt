@@ -4,9 +4,9 @@ ghost use mathlib.Core.List.{List};
 ghost use Prim.Native.Nat.{ℕ};
 ghost use Rattle.rules.specs.Container.{payload};
 ghost use Rattle.rules.specs.Records.{headOffset};
-ghost use Rattle.sizing.specs.Routines.{tables, BoundAsks, BoundOf, RoutineAsks, RoutineIs, buildMaker, MakerAsks, MakerIs};
+ghost use Rattle.sizing.specs.Routines.{nameTables, BoundAsks, BoundOf, RoutineAsks, RoutineIs, buildMaker, MakerAsks, MakerIs};
 use crate::forms::Bound;
-use program::wide;
+use readers::wide;
 use rules::records::AlternativeRecord;
 use rules::records::Instruction;
 use tables::alternative_in;
@@ -45,8 +45,11 @@ fn bound_of(alternatives: &[[u16; 5]; 128], g: usize, count: u16) -> Bound
 
 // Function g.
 pub fn routine_of(functions: &[[u16; 9]; 32], alternatives: &[[u16; 5]; 128], g: usize) -> Routine
-    requires { ⌜ ((file : List ℕ) × (n : ℕ) × (constructors : List (List ℕ)) × RoutineAsks file n (tables constructors (now functions) (now alternatives)) g) ⌝ }
-    ensures { λ r. ⌜ ((file : List ℕ) (n : ℕ) (constructors : List (List ℕ)) → RoutineAsks file n (tables constructors (now (functions .entry)) (now (alternatives .entry))) g → RoutineIs (payload file) (headOffset (payload file) g) r) ⌝ }
+    requires { ⌜ ((file : List ℕ) × (constructors : List (List ℕ))
+        × RoutineAsks file (nameTables constructors (now functions) (now alternatives)) g) ⌝ }
+    ensures { λ r. ⌜ ((file : List ℕ) (constructors : List (List ℕ))
+        → RoutineAsks file (nameTables constructors (now (functions .entry)) (now (alternatives .entry))) g
+        → RoutineIs (payload file) (headOffset (payload file) g) r) ⌝ }
 {
     let row = functions[g];
     let bound = bound_of(alternatives, g, row[6]);
@@ -82,8 +85,9 @@ pub fn maker_of(
     alternatives: &[[u16; 5]; 128],
     ins: Instruction,
 ) -> Maker
-    requires { ⌜ ((file : List ℕ) × (n : ℕ) × MakerAsks file n (tables (now constructors) (now functions) (now alternatives)) ins) ⌝ }
-    ensures { λ r. ⌜ ((file : List ℕ) (n : ℕ) → MakerAsks file n (tables (now (constructors .entry)) (now (functions .entry)) (now (alternatives .entry))) ins → MakerIs (payload file) ins r) ⌝ }
+    requires { ⌜ ((file : List ℕ) × MakerAsks file (nameTables (now constructors) (now functions) (now alternatives)) ins) ⌝ }
+    ensures { λ r. ⌜ ((file : List ℕ) → MakerAsks file (nameTables (now (constructors .entry)) (now (functions .entry))
+        (now (alternatives .entry))) ins → MakerIs (payload file) ins r) ⌝ }
 {
     match ins {
         Instruction::Build(c) => build_maker(constructors[wide(c)]),

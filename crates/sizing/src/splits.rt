@@ -2,7 +2,7 @@
 ghost use mathlib.Core.Path.{_≡_};
 ghost use Prim.Native.Nat.{_+_, _≤_, _<_};
 ghost use lib.ListN.{take};
-ghost use Rattle.sizing.specs.Put.{put, Below};
+ghost use Rattle.sizing.specs.Put.{put, Bounded};
 ghost use Rattle.sizing.specs.Splits.{splitA, carried, Carrying};
 use rules::records::Alternative;
 
@@ -23,7 +23,7 @@ pub struct Splits {
 
 // An alternative after one split.
 pub fn add_split(a: Alternative, p: Split) -> Alternative
-    requires { ⌜ (p .variable < 16) × (p .first + p .parts ≤ 16) × Below 15 1048576 a ⌝ }
+    requires { ⌜ (p .variable < 16) × (p .first + p .parts ≤ 16) × Bounded 15 1048576 a ⌝ }
     ensures { λ r. ⌜ r ≡ put (p .variable) (splitA p) a ⌝ }
 {
     let v = p.variable as usize;

@@ -4,13 +4,13 @@ ghost use mathlib.Core.List.{List};
 ghost use Prim.Native.Nat.{ℕ, _≤_};
 ghost use Rattle.rules.specs.Answers.{toldCheck};
 ghost use Rattle.rules.specs.Base.{only, if_then_else_};
-ghost use Rattle.rules.specs.Container.{payload};
-ghost use Rattle.rules.specs.Records.{programOf};
+ghost use Rattle.rules.specs.Records.{programIn, functionIn};
 ghost use Rattle.rules.specs.Shapes.{shapesOf, sizesRight};
 ghost use Rattle.rules.specs.declared.records.Instruction.the-variants as ins;
-ghost use Rattle.sizing.specs.Routines.{tables};
-ghost use Rattle.sizing.specs.Walking.{programIn, functionIn};
-ghost use Rattle.sizing.specs.Moves.{StartIs, StayIs, MoveAsks, LineMoveAsks, StepAsks, StepSays, FunctionAsks, SizesAsk};
+ghost use Rattle.rules.specs.Established.{Typechecked, LaidOut};
+ghost use Rattle.tables.specs.Tables.{Tabled};
+ghost use Rattle.sizing.specs.Routines.{nameTables};
+ghost use Rattle.sizing.specs.Moves.{StartIs, StayIs, MoveAsks, LineMoveAsks, StepAsks, StepSays, FunctionAsks};
 use crate::line::Straight;
 use crate::line::straight_line;
 use crate::paths::Saved;
@@ -20,8 +20,9 @@ use crate::paths::unvisited;
 use crate::routines::Routine;
 use crate::routines::routine_of;
 use crate::splits::Split;
-use program::instruction;
-use program::wide;
+use readers::instruction;
+use readers::instruction_offset;
+use readers::wide;
 use rules::answers::Checked;
 use rules::answers::Place;
 use rules::answers::Reason;
@@ -100,8 +101,11 @@ fn slot_for(visited: bool, at: usize) -> usize
 
 // A branch on constructor c, else b, at instruction i.
 fn branch(constructors: &[[u16; 9]; 64], g: usize, i: usize, st: Saved, c: u8, b: u16) -> Moved
-    requires { ⌜ ((file : List ℕ) × (n : ℕ) × (functions : List (List ℕ)) × (alternatives : List (List ℕ)) × MoveAsks file n (tables (now constructors) functions alternatives) g i st (ins.Branch c b)) ⌝ }
-    ensures { λ r. ⌜ ((file : List ℕ) (n : ℕ) (functions alternatives : List (List ℕ)) → MoveAsks file n (tables (now (constructors .entry)) functions alternatives) g i st (ins.Branch c b) → StepSays file g i st r) ⌝ }
+    requires { ⌜ ((file : List ℕ) × (functions : List (List ℕ)) × (alternatives : List (List ℕ))
+        × MoveAsks file (nameTables (now constructors) functions alternatives) g i st (ins.Branch c b)) ⌝ }
+    ensures { λ r. ⌜ ((file : List ℕ) (functions alternatives : List (List ℕ))
+        → MoveAsks file (nameTables (now (constructors .entry)) functions alternatives) g i st (ins.Branch c b)
+        → StepSays file g i st r) ⌝ }
 {
     let row = constructors[wide(c)];
     let r = branch_variable(st, c, row[1] as u8, row[6] as u8);
@@ -125,8 +129,7 @@ fn branch(constructors: &[[u16; 9]; 64], g: usize, i: usize, st: Saved, c: u8, b
 
 // A first build or call, at instruction i.
 fn line_move(
-    program: &[u8],
-    n: usize,
+    file: &[u8],
     constructors: &[[u16; 9]; 64],
     functions: &[[u16; 9]; 32],
     alternatives: &[[u16; 5]; 128],
@@ -135,20 +138,10 @@ fn line_move(
     i: usize,
     st: Saved,
 ) -> Moved
-    requires { ⌜ LineMoveAsks (now program) n (tables (now constructors) (now functions) (now alternatives)) g f i st ⌝ }
-    ensures { λ r. ⌜ StepSays (now (program .entry)) g i st r ⌝ }
+    requires { ⌜ LineMoveAsks (now file) (nameTables (now constructors) (now functions) (now alternatives)) g f i st ⌝ }
+    ensures { λ r. ⌜ StepSays (now (file .entry)) g i st r ⌝ }
 {
-    let line = straight_line(
-        program,
-        n,
-        constructors,
-        functions,
-        alternatives,
-        g,
-        f,
-        i,
-        st,
-    );
+    let line = straight_line(file, constructors, functions, alternatives, g, f, i, st);
     match line {
         Straight::Ends(j) => stay(j),
         Straight::Refused(reason) => refuse(reason),
@@ -157,8 +150,7 @@ fn line_move(
 
 // Instruction i, with what arrives there.
 fn step(
-    program: &[u8],
-    n: usize,
+    file: &[u8],
     constructors: &[[u16; 9]; 64],
     functions: &[[u16; 9]; 32],
     alternatives: &[[u16; 5]; 128],
@@ -167,13 +159,13 @@ fn step(
     i: usize,
     st: Saved,
 ) -> Moved
-    requires { ⌜ StepAsks (now program) n (tables (now constructors) (now functions) (now alternatives)) g f i st ⌝ }
-    ensures { λ r. ⌜ StepSays (now (program .entry)) g i st r ⌝ }
+    requires { ⌜ StepAsks (now file) (nameTables (now constructors) (now functions) (now alternatives)) g f i st ⌝ }
+    ensures { λ r. ⌜ StepSays (now (file .entry)) g i st r ⌝ }
 {
     if !st.visited {
         return stay(i + 1);
     }
-    let ins = instruction(program, n, f.base + 4 * (i - 1));
+    let ins = instruction(file, instruction_offset(f.base, i - 1));
     match ins {
         Instruction::Load(a) => Moved {
             checked: Checked::Right,
@@ -184,8 +176,7 @@ fn step(
             on: i + 1,
         },
         Instruction::Build(_) | Instruction::Call(_) => line_move(
-            program,
-            n,
+            file,
             constructors,
             functions,
             alternatives,
@@ -202,15 +193,14 @@ fn step(
 
 // Function g: a slot for each instruction holds what arrives there.
 fn function_sizes(
-    program: &[u8],
-    n: usize,
+    file: &[u8],
     constructors: &[[u16; 9]; 64],
     functions: &[[u16; 9]; 32],
     alternatives: &[[u16; 5]; 128],
     g: usize,
 ) -> Checked
-    requires { ⌜ FunctionAsks (now program) n (tables (now constructors) (now functions) (now alternatives)) g ⌝ }
-    ensures { λ r. ⌜ toldCheck r ≡ only (shapesOf (programIn (now (program .entry))) g (functionIn (now (program .entry)) g)) ⌝ }
+    requires { ⌜ FunctionAsks (now file) (nameTables (now constructors) (now functions) (now alternatives)) g ⌝ }
+    ensures { λ r. ⌜ toldCheck r ≡ only (shapesOf (programIn (now (file .entry))) g (functionIn (now (file .entry)) g)) ⌝ }
 {
     let f = routine_of(functions, alternatives, g);
     let mut saved = [unvisited(); 258];
@@ -219,17 +209,7 @@ fn function_sizes(
     let mut i: usize = 1;
     while i <= last {
         let st = saved[i];
-        let m = step(
-            program,
-            n,
-            constructors,
-            functions,
-            alternatives,
-            g,
-            f,
-            i,
-            st,
-        );
+        let m = step(file, constructors, functions, alternatives, g, f, i, st);
         let checked = m.checked;
         if let Checked::Refused(reason) = checked {
             return Checked::Refused(reason);
@@ -247,21 +227,21 @@ fn function_sizes(
 
 // For the crates above: 10 and 9 over all functions.
 pub fn sizes(
-    program: &[u8],
-    n: usize,
+    file: &[u8],
     header: Header,
     heads: &[usize; 32],
     constructors: &[[u16; 9]; 64],
     functions: &[[u16; 9]; 32],
 ) -> Checked
-    requires { ⌜ SizesAsk (now program) n header (now heads) (now constructors) (now functions) ⌝ }
-    ensures { λ r. ⌜ toldCheck r ≡ sizesRight (programOf (payload (now (program .entry)))) ⌝ }
+    requires { ⌜ Typechecked (now file) × LaidOut (now file) header (now heads)
+        × Tabled (now file) header (now constructors) (now functions) ⌝ }
+    ensures { λ r. ⌜ toldCheck r ≡ sizesRight (programIn (now (file .entry))) ⌝ }
 {
-    let alternatives = alternative_rows(program, n, header, heads, functions);
-    let m = wide(header.functions);
+    let alternatives = alternative_rows(file, header, heads, functions);
+    let m = header.functions as usize;
     let mut g: usize = 0;
     while g < m {
-        let r = function_sizes(program, n, constructors, functions, &alternatives, g);
+        let r = function_sizes(file, constructors, functions, &alternatives, g);
         if let Checked::Refused(reason) = r {
             return Checked::Refused(reason);
         }

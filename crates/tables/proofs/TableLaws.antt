@@ -14,13 +14,14 @@ use Rattle.rules.specs.declared.records.Header.{Header}
 use Rattle.rules.specs.Base.{byteAt}
 use Rattle.rules.specs.Container.{payload}
 use Rattle.rules.specs.Records.{declarationAt, alternativeAt, headAt, alternativeOffset, headOffset}
-use Rattle.rules.specs.Opened.{Opened, OpenedProgram}
-use Rattle.rules.proofs.ContainerLaws.{opened-byte}
+use Rattle.rules.specs.Established.{Verified, Headed, LaidOut}
+use Rattle.rules.proofs.ContainerLaws.{verified-byte}
 use Rattle.tables.specs.Tables.{nameRow, functionRow, alternativeRow, FunctionRows, AlternativeRows, RowThere}
-use Rattle.program.proofs.LayoutLaws.{head-placed, function-placed}
+use Rattle.program.proofs.LayoutLaws.{function-there, head-placed, function-placed}
 
 -- what holds of each of the first i entries, after a store at i
-pub stored-each : {A : Type 0} (d : A) (P : ℕ → A → Type 0) (r : List A) (i : ℕ) (x : A) → i < length r → ((j : ℕ) → j < i → P j (getD r j d)) → P i x → (j : ℕ) → j < i + 1 → P j (getD (set r i x) j d)
+pub stored-each : {A : Type 0} (d : A) (P : ℕ → A → Type 0) (r : List A) (i : ℕ) (x : A) → i < length r
+    → ((j : ℕ) → j < i → P j (getD r j d)) → P i x → (j : ℕ) → j < i + 1 → P j (getD (set r i x) j d)
 stored-each d P r i x h q p j l = go (eqb j i) refl
   where
     go : (t : Bool) → eqb j i ≡ t → P j (getD (set r i x) j d)
@@ -28,15 +29,20 @@ stored-each d P r i x h q p j l = go (eqb j i) refl
     go false e = rw (getD-set-other r i j x d (eqb-false j i e)) (q j (omega (arith, eqb-false j i e)))
 
 -- the row of a function as it is read
-pub function-row : (bytes : List ℕ) {at w : ℕ} {h : HeadRecord} (g : ℕ) → at ≡ headOffset bytes g → h ≡ headAt bytes at → w ≡ h .alternatives
-    → nameRow (h .declaration) (h .alternatives) (at + 10 + 6 * w) (h .instructions) ≡ functionRow (headOffset bytes g) (headAt bytes (headOffset bytes g))
-function-row bytes g p e q = rw (q, e, p)
+pub function-row : (bytes : List ℕ) {at k code : ℕ} {h : HeadRecord} (g : ℕ) → at ≡ headOffset bytes g
+    → h ≡ headAt bytes at → k ≡ h .alternatives
+    → code ≡ alternativeOffset at k
+    → nameRow (h .declaration) (h .alternatives) code (h .instructions)
+    ≡ functionRow (headOffset bytes g) (headAt bytes (headOffset bytes g))
+function-row bytes g p e q r = rw (r, q, e, p)
 
 ---- The alternatives, of which four places stand for a function's
 
 -- what is at a place, where the function has so many alternatives
-abbrev pub AlternativeIn : List ℕ → ℕ → List ℕ → Type 0
-AlternativeIn bytes i row = i % 4 < byteAt bytes (headOffset bytes (i / 4) + 6) → row ≡ alternativeRow (alternativeAt bytes (alternativeOffset (headOffset bytes (i / 4)) (i % 4)))
+abbrev AlternativeIn : List ℕ → ℕ → List ℕ → Type 0
+AlternativeIn bytes i row =
+    i % 4 < byteAt bytes (headOffset bytes (i / 4) + 6)
+    → row ≡ alternativeRow (alternativeAt bytes (alternativeOffset (headOffset bytes (i / 4)) (i % 4)))
 
 -- the first i places of 128
 pub record Alternatives (bytes : List ℕ) (i : ℕ) (rows : List (List ℕ)) : Type 0 where
@@ -64,7 +70,8 @@ pub alternatives-start : (bytes : List ℕ) → Alternatives bytes 0 (replicate 
 alternatives-start bytes = record { long = refl; there = λ j l. absurd (omega arith); small = λ k j l. omega (arith, blank 128 k j) }
 
 module _ {bytes : List ℕ} {i : ℕ} {rows : List (List ℕ)} (a : Alternatives bytes i rows) where
-  pub alternatives-stored : {row : List ℕ} → i < 128 → AlternativeIn bytes i row → ((j : ℕ) → j < 4 → getD row j 0 < 256) → Alternatives bytes (i + 1) (set rows i row)
+  pub alternatives-stored : {row : List ℕ} → i < 128 → AlternativeIn bytes i row → ((j : ℕ) → j < 4 → getD row j 0 < 256)
+      → Alternatives bytes (i + 1) (set rows i row)
   alternatives-stored {row} l h s = record {
     long = length-set rows i row ∙ a .long;
     there = stored-each [] (AlternativeIn bytes) rows i row (omega (arith, a .long)) (a .there) h;
@@ -91,38 +98,44 @@ module _ {bytes : List ℕ} {i : ℕ} {rows : List (List ℕ)} (a : Alternatives
     small = a .small;
   }
 
--- a function by its row and by its head
-module _ {file : List ℕ} {n : ℕ} {h : Header} {heads : List ℕ} {rows : List (List ℕ)} (o : OpenedProgram file n h heads) (f : FunctionRows (payload file) (h .functions) rows) (g : ℕ) (l : g < h .functions) where
+-- a function by its row
+module _ {file : List ℕ} {h : Header} {rows : List (List ℕ)} (o : Headed file h) (f : FunctionRows (payload file) (h .functions) rows)
+    (g : ℕ) (l : g < h .functions) where
   pub row-there : RowThere (payload file) g (getD rows g [])
-  row-there = record { there = rw (head-placed o g l) at (function-placed o g l); is = f .row g l }
+  row-there = record { there = function-there o g l; is = f .row g l }
 
   pub row-alternatives : getD (getD rows g []) 6 0 ≡ byteAt (payload file) (headOffset (payload file) g + 6)
   row-alternatives = ap (λ (row : List ℕ). getD row 6 0) (f .row g l)
 
   pub few-rows : byteAt (payload file) (headOffset (payload file) g + 6) ≤ 4
-  few-rows = rw (head-placed o g l) at (function-placed o g l .few-alternatives)
+  few-rows = function-there o g l .few-alternatives
 
+-- and by its head
+module _ {file : List ℕ} {h : Header} {heads : List ℕ} {rows : List (List ℕ)} (o : LaidOut file h heads)
+    (f : FunctionRows (payload file) (h .functions) rows) (g : ℕ) (l : g < h .functions) where
   pub head-within : getD heads g 0 ≤ 32256
-  head-within = omega (arith, function-placed o g l .head, o .opened .long, o .opened .small)
+  head-within = omega (arith, function-placed o g l .head, o .headed .parsed .verified .small)
 
-  pub alternative-within : (k : ℕ) → k < getD (getD rows g []) 6 0 → getD heads g 0 + 10 + 6 * k + 6 ≤ n
+  pub alternative-within : (k : ℕ) → k < getD (getD rows g []) 6 0 → alternativeOffset (getD heads g 0) k + 6 ≤ length (payload file)
   alternative-within k t =
-      let c : k < byteAt (payload file) (getD heads g 0 + 6) = rw (head-placed o g l) (omega (arith, row-alternatives)) in
-      rw (o .opened .long) (function-placed o g l .alternative k c .0)
+      let c : k < byteAt (payload file) (getD heads g 0 + 6) = rw (head-placed o g l) (omega (arith, row-alternatives (o .headed) f g l)) in
+      function-placed o g l .alternative k c .0
 
-  pub alternative-read : (k : ℕ) {a : AlternativeRecord} {row : List ℕ} → a ≡ alternativeAt (payload file) (getD heads g 0 + 10 + 6 * k) → row ≡ alternativeRow a
+  pub alternative-read : (k : ℕ) {x : ℕ} {a : AlternativeRecord} {row : List ℕ} → x ≡ alternativeOffset (getD heads g 0) k
+      → a ≡ alternativeAt (payload file) x → row ≡ alternativeRow a
       → row ≡ alternativeRow (alternativeAt (payload file) (alternativeOffset (headOffset (payload file) g) k))
-  alternative-read k e q = q ∙ ap alternativeRow (e ∙ ap (λ (x : ℕ). alternativeAt (payload file) (alternativeOffset x k)) (head-placed o g l))
+  alternative-read k p e q =
+      q ∙ ap alternativeRow (e ∙ ap (alternativeAt (payload file)) (p ∙ ap (λ (x : ℕ). alternativeOffset x k) (head-placed o g l)))
 
 ---- What fits a byte
 
-module _ {file : List ℕ} {n : ℕ} (o : Opened file n) (small : (k : ℕ) → getD file k 0 < 256) where
+module _ {file : List ℕ} (o : Verified file) (small : (k : ℕ) → getD file k 0 < 256) where
   pub byte-small : (k : ℕ) → byteAt (payload file) k < 256
-  byte-small k = go (ltb k n) refl
+  byte-small k = go (ltb k (length (payload file))) refl
     where
-      go : (t : Bool) → ltb k n ≡ t → byteAt (payload file) k < 256
-      go true l = rw (← opened-byte o k (ltb-true k n l)) (small _)
-      go false l = let z = o .long in rw (List·getD-eq-default (payload file) 0 {n = k} (omega (arith, ltb-false k n l))) (omega arith)
+      go : (t : Bool) → ltb k (length (payload file)) ≡ t → byteAt (payload file) k < 256
+      go true l = rw (← verified-byte o k (ltb-true k _ l)) (small _)
+      go false l = rw (List·getD-eq-default (payload file) 0 {n = k} (ltb-false k _ l)) (omega arith)
 
   -- the first six numbers of a row
   pub signature-small : (at a b c j : ℕ) → j < 6 → getD (nameRow (declarationAt (payload file) at) a b c) j 0 < 256

@@ -4,15 +4,23 @@ ghost use mathlib.Core.Path.{_≡_};
 ghost use Prim.Native.Nat.{ℕ, _<_};
 ghost use lib.ListN.{getD};
 ghost use Rattle.rules.specs.Container.{payload};
-ghost use Rattle.rules.specs.Opened.{OpenedProgram};
-ghost use Rattle.tables.specs.Tables.{OpenedHeader, nameRow, alternativeRow, signatureIn, alternativeIn, ConstructorRows, FunctionRows, AlternativeRows};
-use program::alternative;
-use program::constructor;
-use program::head;
-use program::wide;
+ghost use Rattle.rules.specs.Established.{Headed, LaidOut};
+ghost use Rattle.tables.specs.Tables.{nameRow, alternativeRow, signatureIn, alternativeIn, ConstructorRows, FunctionRows};
+ghost use Rattle.tables.specs.Tables.{AlternativeRows};
+use readers::alternative;
+use readers::alternative_offset;
+use readers::constructor;
+use readers::constructor_offset;
+use readers::head;
+use readers::wide;
 use rules::records::AlternativeRecord;
 use rules::records::Declaration;
 use rules::records::Header;
+
+mod code; // code.rt: where a function's code stands
+
+pub use code::Code;
+pub use code::code_of;
 
 // 0: the result type; 1: the arity; 2 to 5: the types of the arguments; 6: a constructor's weight, or how many alternatives a function
 // has; 7 and 8: the offset of a function's code, and how many instructions that has.
@@ -46,15 +54,15 @@ fn alternative_row(a: AlternativeRecord) -> [u16; 5]
 }
 
 // For the crates above: a row for each constructor.
-pub fn constructor_rows(program: &[u8], n: usize, header: Header) -> [[u16; 9]; 64]
-    requires { ⌜ OpenedHeader (now program) n header ⌝ }
-    ensures { λ r. ⌜ ConstructorRows (payload (now (program .entry))) (header .constructors) r ⌝ }
+pub fn constructor_rows(file: &[u8], header: Header) -> [[u16; 9]; 64]
+    requires { ⌜ Headed (now file) header ⌝ }
+    ensures { λ r. ⌜ ConstructorRows (payload (now (file .entry))) (header .constructors) r ⌝ }
 {
     let m = wide(header.constructors);
     let mut rows = [[0u16; 9]; 64];
     let mut c: usize = 0;
     while c < m {
-        let k = constructor(program, n, 4 + 8 * c);
+        let k = constructor(file, constructor_offset(c));
         let d = k.declaration;
         rows[c] = name_row(d, k.weight as u16, 0, 0);
         c += 1;
@@ -63,23 +71,18 @@ pub fn constructor_rows(program: &[u8], n: usize, header: Header) -> [[u16; 9]; 
 }
 
 // For the crates above: a row for each function.
-pub fn function_rows(
-    program: &[u8],
-    n: usize,
-    header: Header,
-    heads: &[usize; 32],
-) -> [[u16; 9]; 32]
-    requires { ⌜ OpenedProgram (now program) n header (now heads) ⌝ }
-    ensures { λ r. ⌜ FunctionRows (payload (now (program .entry))) (header .functions) r ⌝ }
+pub fn function_rows(file: &[u8], header: Header, heads: &[usize; 32]) -> [[u16; 9]; 32]
+    requires { ⌜ LaidOut (now file) header (now heads) ⌝ }
+    ensures { λ r. ⌜ FunctionRows (payload (now (file .entry))) (header .functions) r ⌝ }
 {
     let m = wide(header.functions);
     let mut rows = [[0u16; 9]; 32];
     let mut g: usize = 0;
     while g < m {
         let at = heads[g];
-        let h = head(program, n, at);
+        let h = head(file, at);
         let d = h.declaration;
-        let code = at + 10 + 6 * wide(h.alternatives);
+        let code = alternative_offset(at, wide(h.alternatives));
         rows[g] = name_row(d, h.alternatives as u16, code as u16, h.instructions);
         g += 1;
     }
@@ -88,14 +91,13 @@ pub fn function_rows(
 
 // For the crates above: four rows for the alternatives of each function.
 pub fn alternative_rows(
-    program: &[u8],
-    n: usize,
+    file: &[u8],
     header: Header,
     heads: &[usize; 32],
     functions: &[[u16; 9]; 32],
 ) -> [[u16; 5]; 128]
-    requires { ⌜ OpenedProgram (now program) n header (now heads) × FunctionRows (payload (now program)) (header .functions) (now functions) ⌝ }
-    ensures { λ r. ⌜ AlternativeRows (payload (now (program .entry))) (header .functions) r ⌝ }
+    requires { ⌜ LaidOut (now file) header (now heads) × FunctionRows (payload (now file)) (header .functions) (now functions) ⌝ }
+    ensures { λ r. ⌜ AlternativeRows (payload (now (file .entry))) (header .functions) r ⌝ }
 {
     let m = 4 * wide(header.functions);
     let mut rows = [[0u16; 5]; 128];
@@ -104,7 +106,7 @@ pub fn alternative_rows(
         let g = i / 4;
         let k = i % 4;
         if k < functions[g][6] as usize {
-            rows[i] = alternative_row(alternative(program, n, heads[g] + 10 + 6 * k));
+            rows[i] = alternative_row(alternative(file, alternative_offset(heads[g], k)));
         }
         i += 1;
     }

@@ -6,7 +6,6 @@
 use blocks::long_at;
 use libc::STDIN_FILENO;
 use libc::STDOUT_FILENO;
-use rules::answers::Answer;
 use rules::answers::Ending;
 use rules::answers::Verdict;
 
@@ -33,11 +32,11 @@ fn ending_number(ending: Ending) -> u64 {
     }
 }
 
-fn checks(program: &[u8], times: u32) -> u64 {
+fn checks(file: &[u8], times: u32) -> u64 {
     let mut sum: u64 = 0;
     let mut left = times;
     while 0 < left {
-        let verdict = verifier::check(program);
+        let verdict = verifier::check(file);
         sum = std::num::wrapping_add_u64(sum, verdict_number(verdict));
         left -= 1;
     }
@@ -45,7 +44,7 @@ fn checks(program: &[u8], times: u32) -> u64 {
 }
 
 fn runs(
-    program: &[u8],
+    file: &[u8],
     entry: u32,
     arguments: &[u8],
     budget: u32,
@@ -58,7 +57,7 @@ fn runs(
     let mut sum: u64 = 0;
     let mut left = times;
     while 0 < left {
-        let answer = interpreter::run(program, entry, arguments, budget, cells, stack, frames, out);
+        let answer = interpreter::run(file, entry, arguments, budget, cells, stack, frames, out);
         let ending = answer.ending;
         sum = std::num::wrapping_add_u64(sum, ending_number(ending));
         sum = std::num::wrapping_add_u64(sum, answer.steps as u64);
@@ -72,7 +71,7 @@ fn line(sum: u64) {
     io::write_all(STDOUT_FILENO, b"\n");
 }
 
-fn time_runs(header: &[u8; 40], program: &[u8], arguments: &[u8]) {
+fn time_runs(header: &[u8; 40], file: &[u8], arguments: &[u8]) {
     let cells = long_at(header, 24) as usize;
     let stack = long_at(header, 28) as usize;
     let frames = long_at(header, 32) as usize;
@@ -94,7 +93,7 @@ fn time_runs(header: &[u8; 40], program: &[u8], arguments: &[u8]) {
     let mut lent_frames = [0u16; 196605];
     let mut lent_out = [0u8; 65536];
     let sum = runs(
-        program,
+        file,
         long_at(header, 16),
         arguments,
         long_at(header, 20),
@@ -107,23 +106,23 @@ fn time_runs(header: &[u8; 40], program: &[u8], arguments: &[u8]) {
     line(sum);
 }
 
-fn do_job(header: &[u8; 40], program: &[u8], arguments: &[u8]) {
+fn do_job(header: &[u8; 40], file: &[u8], arguments: &[u8]) {
     if long_at(header, 0) == 1 {
-        line(checks(program, long_at(header, 4)));
+        line(checks(file, long_at(header, 4)));
         return;
     }
-    time_runs(header, program, arguments);
+    time_runs(header, file, arguments);
 }
 
-fn read_and_do(header: &[u8; 40], program: &mut [u8], arguments: &mut [u8]) {
-    io::read_full(STDIN_FILENO, program);
+fn read_and_do(header: &[u8; 40], file: &mut [u8], arguments: &mut [u8]) {
+    io::read_full(STDIN_FILENO, file);
     io::read_full(STDIN_FILENO, arguments);
-    do_job(header, program, arguments);
+    do_job(header, file, arguments);
 }
 
 fn main() {
     let mut header = [0u8; 40];
-    let mut program = [0u8; 32768];
+    let mut file = [0u8; 32768];
     let mut arguments = [0u8; 65536];
     io::read_full(STDIN_FILENO, &mut header);
     let n = long_at(&header, 8) as usize;
@@ -134,5 +133,5 @@ fn main() {
     if 65536 < m {
         return;
     }
-    read_and_do(&header, &mut program[0..n], &mut arguments[0..m]);
+    read_and_do(&header, &mut file[0..n], &mut arguments[0..m]);
 }

@@ -1,3 +1,1 @@
-pub mod Arrows
-pub mod Flowing
 pub mod Typing

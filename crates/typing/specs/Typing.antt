@@ -1,81 +1,29 @@
--- The types of a stack as the type pass keeps them, and what its answers say.
-use mathlib.Core.Path.{_≡_}
-use mathlib.Core.List.{List, [], _∷_, _++_}
-use mathlib.Core.Bool.{Bool, _&&_}
-use Prim.Native.Nat.{ℕ, _-_, _≤_, _<_}
-use lib.ListN.{length, take, drop, getD}
-use lib.Dec.{leb}
+-- What the parts of the type pass ask for, and the signatures that instructions name.
+use mathlib.Core.List.{List, [], _∷_}
+use mathlib.Core.Bool.{false}
+use mathlib.Core.Option.{Option, none, some}
+use Prim.Native.Nat.{ℕ, _≤_, _<_}
+use lib.ListN.{getD}
 use Rattle.rules.specs.declared.records.Header.{Header}
 use Rattle.rules.specs.declared.records.Instruction.{Instruction}
 use Rattle.rules.specs.declared.records.Instruction.the-variants.{Load, Build, Call, Branch, Return, Stop}
-use Rattle.rules.specs.Base.{Tried, found, passed, refused, refusal, _>>=_, if_then_else_}
-use Rattle.rules.specs.Container.{payload}
-use Rattle.rules.specs.Flow.{flowRight}
-use Rattle.rules.specs.Program.{Function, Program}
-use Rattle.rules.specs.Records.{programOf}
-use Rattle.rules.specs.Walk.{Arrow}
-use Rattle.rules.specs.Stacks.{push}
-use Rattle.rules.specs.Types.{same, below, typesOn}
-use Rattle.tables.specs.Tables.{OpenedHeader, ConstructorRows, FunctionRows}
-use Rattle.typing.specs.declared.stack.Stack.{Stack}
-use Rattle.typing.specs.declared.stack.Cut.{Cut}
-use Rattle.typing.specs.declared.operation.Typed.{Typed}
-use Rattle.typing.specs.Arrows.{arrowTo}
+use Rattle.rules.specs.Program.{Constructor, Function}
+use Rattle.tables.specs.Tables.{Tabled}
+use Rattle.operands.specs.declared.named.Lookup.{Lookup}
+use Rattle.operands.specs.Operands.{Signature}
 
-abbrev pub stackOf : Stack → List ℕ
-stackOf st = take (st .height) (st .types)
+---- The signature that an instruction names
 
--- sixteen places, no more in use
-pub record Sound (st : Stack) : Type 0 where
-  pub places : length (st .types) ≡ 16
-  pub within : st .height ≤ 16
+abbrev pub constructorSignature : Option Constructor → Option Signature
+constructorSignature none = none
+constructorSignature (some k) = some (k .arguments, k .result)
 
--- a stack with these types
-pub record Holds (st : Stack) (types : List ℕ) : Type 0 where
-  pub sound : Sound st
-  pub is : stackOf st ≡ types
+abbrev pub functionSignature : Option Function → Option Signature
+functionSignature none = none
+functionSignature (some k) = some (k .parameters, k .result)
 
--- the stack ends in these types
-abbrev pub endsIn : List ℕ → List ℕ → Bool
-endsIn stack types = leb (length types) (length stack) && same (drop (length stack - length types) stack) types
-
----- What the answers say, in function n at instruction i
-
--- what is below the types that the stack is to end in, or 8
-unfoldable pub restOf : ℕ → ℕ → Cut → Tried (List ℕ)
-restOf n i r = if r .wrong then refused (refusal 8 n i) else found (stackOf (r .rest))
-
-pub record CutSays (types stack : List ℕ) (r : Cut) : Type 0 where
-  pub says : (s : Program) (n : ℕ) (f : Function) (i : ℕ) → restOf n i r ≡ below s n f i types stack
-  pub sound : Sound (r .rest)
-
--- the arrows that leave, where this stack arrived, or 8
-unfoldable pub typedOf : ℕ → ℕ → List ℕ → Typed → Tried (List (Arrow (List ℕ)))
-typedOf n i here r = if r .wrong then refused (refusal 8 n i) else found (arrowTo (r .on) (stackOf (r .stack)) ++ arrowTo (r .to) here)
-
--- nothing leaves, whether that is wrong or not
-abbrev pub noArrow : Bool → Stack → Typed
-noArrow wrong st = record { wrong = wrong; on = 0; to = 0; stack = st }
-
--- an answer says what a rule does
-pub record TypeSays (n i : ℕ) (here : List ℕ) (r : Typed) (rule : Tried (List (Arrow (List ℕ)))) : Type 0 where
-  pub says : typedOf n i here r ≡ rule
-  pub sound : Sound (r .stack)
-
----- The type rules once the signature that an instruction names is found
-
--- a build or a call
-abbrev pub applied : Program → ℕ → Function → ℕ → List ℕ → ℕ → List ℕ → Tried (List (Arrow (List ℕ)))
-applied s n f i types result stack = do
-  rest ← below s n f i types stack
-  typesOn s n f i (push rest result)
-
--- a branch
-abbrev pub branched : Program → ℕ → Function → ℕ → ℕ → List ℕ → ℕ → List ℕ → Tried (List (Arrow (List ℕ)))
-branched s n f i result types b stack = do
-  rest ← below s n f i (result ∷ []) stack
-  on ← typesOn s n f i (rest ++ types)
-  found (on ++ ((b, stack) ∷ []))
+abbrev pub notFound : Lookup
+notFound = record { known = false; signature = record { result = 0; arity = 0; types = 0 ∷ 0 ∷ 0 ∷ 0 ∷ [] } }
 
 ---- What is asked for
 
@@ -88,16 +36,7 @@ Aims (Branch c b) = 1 ≤ b
 Aims Return = Unit {0}
 Aims Stop = Unit {0}
 
--- a program whose records are right, with its header, and a row for each constructor and each function
-pub record Named (file : List ℕ) (n : ℕ) (h : Header) (constructors functions : List (List ℕ)) : Type 0 where
-  pub program : OpenedHeader file n h
+-- a parsed file with its header and tables, as bytes
+pub record Named (file : List ℕ) (h : Header) (constructors functions : List (List ℕ)) : Type 0 where
+  pub tabled : Tabled file h constructors functions
   pub bytes : (k : ℕ) → getD file k 0 < 256
-  pub constructor : ConstructorRows (payload file) (h .constructors) constructors
-  pub function : FunctionRows (payload file) (h .functions) functions
-
--- such a program, which 7 passes
-pub record TypesAsk (file : List ℕ) (n : ℕ) (h : Header) (constructors functions : List (List ℕ)) : Type 0 where
-  pub program : OpenedHeader file n h
-  pub flow : flowRight (programOf (payload file)) ≡ passed
-  pub constructor : ConstructorRows (payload file) (h .constructors) constructors
-  pub function : FunctionRows (payload file) (h .functions) functions

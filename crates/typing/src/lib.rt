@@ -1,10 +1,6 @@
-// The passes that follow the paths of each function's code: flow, 7, and types, 8.
-mod code;
-mod flow;
-mod operation;
-mod stack;
-mod step;
-mod walk;
+// The type pass, 8: the types of the stack along the paths of each function's code.
+mod signature; // signature.rt: the signature that an instruction names
+mod step; // step.rt: one instruction
+mod walk; // walk.rt: the pass over a function's code, and over all functions
 
-pub use flow::flows;
 pub use walk::types;

@@ -2,7 +2,7 @@
 // Where the input cannot be read or the line cannot be written, the reason goes to standard error instead.
 ghost use mathlib.Core.Path.{_≡_};
 ghost use lib.ListN.{length};
-ghost use Rattle.io.specs.Counts.{Counts};
+ghost use Rattle.io.specs.Counts.{Counts as CountsFront};
 ghost use Rattle.rules.specs.Check.{verdictOf};
 ghost use Rattle.rules.specs.Memory.{frontWritten};
 ghost use Rattle.report.specs.Line.{verdictLine};
@@ -11,12 +11,12 @@ use libc::STDOUT_FILENO;
 use report::line::write_verdict;
 
 // The line of the verdict on a program, at the front of a buffer. The answer is its length.
-fn tell(program: &[u8], line: &mut [u8; 72]) -> usize
-    ensures { λ r. ⌜ Counts r (now (line .exit)) ⌝ }
-    ensures { λ r. ⌜ r ≡ length (verdictLine (verdictOf (now (program .entry)))) ⌝ }
-    ensures { λ _. ⌜ now (line .exit) ≡ frontWritten (verdictLine (verdictOf (now (program .entry)))) (now (line .entry)) ⌝ }
+fn tell(file: &[u8], line: &mut [u8; 72]) -> usize
+    ensures { λ r. ⌜ CountsFront r (now (line .exit)) ⌝ }
+    ensures { λ r. ⌜ r ≡ length (verdictLine (verdictOf (now (file .entry)))) ⌝ }
+    ensures { λ _. ⌜ now (line .exit) ≡ frontWritten (verdictLine (verdictOf (now (file .entry)))) (now (line .entry)) ⌝ }
 {
-    write_verdict(verifier::check(program), line)
+    write_verdict(verifier::check(file), line)
 }
 
 // Whether nothing follows on standard input, and not because a read failed.

@@ -2,8 +2,8 @@
 ghost use mathlib.Core.Path.{_≡_};
 ghost use Rattle.rules.specs.Answers.{told};
 ghost use Rattle.rules.specs.Check.{verdictOf};
-ghost use Rattle.rules.specs.Opened.{Opened};
-ghost use Rattle.verifier.specs.Examined.{DeclaredRight, Declared, CodedRight, ExaminedRight};
+ghost use Rattle.rules.specs.Established.{Measured, Declared, LaidOut};
+ghost use Rattle.verifier.specs.Examined.{DeclaredRight, CodedRight, ExaminedRight};
 use program::Contents;
 use program::Layout;
 use rules::answers::Checked;
@@ -20,20 +20,20 @@ pub struct Examined {
 }
 
 // Whether a program is accepted, with its counts, or why it is not.
-pub fn check(program: &[u8]) -> Verdict
-    ensures { λ r. ⌜ told r ≡ verdictOf (now (program .entry)) ⌝ }
+pub fn check(file: &[u8]) -> Verdict
+    ensures { λ r. ⌜ told r ≡ verdictOf (now (file .entry)) ⌝ }
 {
-    let examined = examine(program);
+    let examined = examine(file);
     examined.verdict
 }
 
 // For the crates above: the verdict, with the layout of a program that is accepted.
-pub fn examine(program: &[u8]) -> Examined
-    ensures { λ r. ⌜ ExaminedRight (now (program .entry)) (r .verdict) (r .layout) ⌝ }
+pub fn examine(file: &[u8]) -> Examined
+    ensures { λ r. ⌜ ExaminedRight (now (file .entry)) (r .verdict) (r .layout) ⌝ }
 {
-    let verified = blocks::verify(program);
+    let verified = blocks::verify(file);
     match verified {
-        Length::Bytes(n) => examine_payload(program, n),
+        Length::Bytes(n) => examine_payload(file, n),
         Length::Refused(reason) => refused(reason),
     }
 }
@@ -44,7 +44,6 @@ fn refused(reason: Reason) -> Examined
     Examined {
         verdict: Verdict::Refused(reason),
         layout: Layout {
-            length: 0,
             header: Header {
                 edition: 0,
                 types: 0,
@@ -57,17 +56,17 @@ fn refused(reason: Reason) -> Examined
 }
 
 // 4 to 10 over verified blocks.
-fn examine_payload(program: &[u8], n: usize) -> Examined
-    requires { ⌜ Opened (now program) n ⌝ }
-    ensures { λ r. ⌜ ExaminedRight (now (program .entry)) (r .verdict) (r .layout) ⌝ }
+fn examine_payload(file: &[u8], n: usize) -> Examined
+    requires { ⌜ Measured (now file) n ⌝ }
+    ensures { λ r. ⌜ ExaminedRight (now (file .entry)) (r .verdict) (r .layout) ⌝ }
 {
-    let contents = check_declarations(program, n);
+    let contents = check_declarations(file, n);
     let declared = contents.checked;
     if let Checked::Refused(reason) = declared {
         return refused(reason);
     }
     let layout = contents.layout;
-    let coded = check_code(program, layout);
+    let coded = check_code(file, layout);
     if let Checked::Refused(reason) = coded {
         return refused(reason);
     }
@@ -83,11 +82,11 @@ fn examine_payload(program: &[u8], n: usize) -> Examined
 }
 
 // 4, 5 and 6: the records, and what they declare.
-fn check_declarations(program: &[u8], n: usize) -> Contents
-    requires { ⌜ Opened (now program) n ⌝ }
-    ensures { λ r. ⌜ DeclaredRight (now (program .entry)) n (r .checked) (r .layout) ⌝ }
+fn check_declarations(file: &[u8], n: usize) -> Contents
+    requires { ⌜ Measured (now file) n ⌝ }
+    ensures { λ r. ⌜ DeclaredRight (now (file .entry)) (r .checked) (r .layout) ⌝ }
 {
-    let contents = program::open(program, n);
+    let contents = program::open(file, n);
     let opened = contents.checked;
     let layout = contents.layout;
     if let Checked::Refused(reason) = opened {
@@ -96,7 +95,7 @@ fn check_declarations(program: &[u8], n: usize) -> Contents
             layout: layout,
         };
     }
-    let declarations = program::declarations(program, layout);
+    let declarations = declarations::declared(file, layout);
     if let Checked::Refused(reason) = declarations {
         return Contents {
             checked: Checked::Refused(reason),
@@ -104,28 +103,27 @@ fn check_declarations(program: &[u8], n: usize) -> Contents
         };
     }
     Contents {
-        checked: program::bounds(program, layout),
+        checked: declarations::bounded(file, layout),
         layout: layout,
     }
 }
 
 // 7, 8, and 10 and 9: the code of all functions. The constructors and heads are read once for all of them.
-fn check_code(program: &[u8], layout: Layout) -> Checked
-    requires { ⌜ Declared (now program) (layout .length) layout ⌝ }
-    ensures { λ r. ⌜ CodedRight (now (program .entry)) r ⌝ }
+fn check_code(file: &[u8], layout: Layout) -> Checked
+    requires { ⌜ Declared (now file) × LaidOut (now file) (layout .header) (layout .heads) ⌝ }
+    ensures { λ r. ⌜ CodedRight (now (file .entry)) r ⌝ }
 {
-    let n = layout.length;
     let header = layout.header;
     let heads = layout.heads;
-    let constructors = tables::constructor_rows(program, n, header);
-    let functions = tables::function_rows(program, n, header, &heads);
-    let flow = typing::flows(program, n, header, &functions);
+    let constructors = tables::constructor_rows(file, header);
+    let functions = tables::function_rows(file, header, &heads);
+    let flow = flow::flows(file, header, &functions);
     if let Checked::Refused(reason) = flow {
         return Checked::Refused(reason);
     }
-    let types = typing::types(program, n, header, &constructors, &functions);
+    let types = typing::types(file, header, &constructors, &functions);
     if let Checked::Refused(reason) = types {
         return Checked::Refused(reason);
     }
-    sizing::sizes(program, n, header, &heads, &constructors, &functions)
+    sizing::sizes(file, header, &heads, &constructors, &functions)
 }

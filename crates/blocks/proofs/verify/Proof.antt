@@ -1,7 +1,7 @@
 -- `blocks::verify` meets its contract: verified blocks are opened with their payload's length. Assumes nothing.
 use mathlib.Core.Path.{sym, ap, _∙_}
 use Rattle.rules.specs.Answers.{toldCheck, lengthOf}
-use Rattle.blocks.proofs.OpenLaws.{opened-told, verified-stopped}
+use Rattle.blocks.proofs.VerifyLaws.{measured-told, verified-stopped}
 use borrow.Author.Needs.{needs}
 use Rattle.blocks.proofs.verify.Statement.{statement}
 use Rattle.blocks.proofs.verify.Tie as tie
@@ -19,10 +19,12 @@ enum-known-checked : tie.Need-enum-known-checked
 enum-known-checked c = search needs
 
 returns : tie.Need-returns
-returns c = opened-told (c .payload-length .ensures)
+returns c = measured-told (c .payload-length .ensures)
 
 returns-2 : tie.Need-returns-2
-returns-2 c = sym (ap lengthOf (verified-stopped _ (sym (c .before .before .before .verify-blocks .ensures) ∙ ap toldCheck (c .before .checked .given .1))))
+returns-2 c =
+    sym (ap lengthOf (verified-stopped _ (sym (c .before .before .before .verify-blocks .ensures)
+    ∙ ap toldCheck (c .before .checked .given .1))))
 
 pub verify-spec : {M : Type 1} → statement M
 verify-spec =

@@ -1,7 +1,5 @@
 -- `run` meets its contract: a program that is not accepted is refused before the start.
-use native.Mathlib.Omega.{arith}
 use Rattle.interpreter.proofs.BeginLaws.{not-checked}
-use Rattle.interpreter.proofs.CallLaws.{admitted}
 use borrow.Author.Needs.{needs}
 use Rattle.interpreter.proofs.run.Statement.{statement}
 use Rattle.interpreter.proofs.run.Tie as tie
@@ -13,7 +11,11 @@ enum-told : tie.Need-enum-told
 enum-told c = search needs
 
 run-accepted-requires : tie.Need-run-accepted-requires
-run-accepted-requires c κs = (admitted (c .before .before .before .before .before .before .before .examine .ensures) (c .before .before .before .before .before .enum-told .given .1), search needs)
+run-accepted-requires c κs =
+    let at-enum-told = c .before .before .before .before .before in
+    let at-examine = at-enum-told .before .before in
+    let a = at-examine .examine .ensures .accepted _ (at-enum-told .enum-told .given .1) in
+    (a .0, a .1, search needs)
 
 enum-known-verdict : tie.Need-enum-known-verdict
 enum-known-verdict c = search needs
@@ -37,7 +39,12 @@ returns : tie.Need-returns
 returns c = search needs
 
 returns-2 : tie.Need-returns-2
-returns-2 c = rw (c .not-begun .ensures) (not-checked (c .before .before .before .before .before .before .before .before .before .before .before .args .program .now) _ _ _ _ _ _ _ _ (c .before .before .before .before .examine .ensures .refuses _ (c .before .before .verdict .given .1)))
+returns-2 c =
+    let at-verdict = c .before .before in
+    let at-examine = at-verdict .before .before in
+    let start = at-examine .before .before .before .before .before .before .before in
+    rw (c .not-begun .ensures) (not-checked (start .args .file .now) _ _ _ _ _ _ _ _
+    (at-examine .examine .ensures .refuses _ (at-verdict .verdict .given .1)))
 
 pub run-spec : {M : Type 1} → statement M
 run-spec =

@@ -50,26 +50,26 @@ refusal-requires-7 c κs = search needs
 enum-known-reason-7 : tie.Need-enum-known-reason-7
 enum-known-reason-7 c = search needs
 
-at-requires : tie.Need-at-requires
-at-requires c κs = search needs
+at-place-requires : tie.Need-at-place-requires
+at-place-requires c κs = search needs
 
 enum-known-reason-8 : tie.Need-enum-known-reason-8
 enum-known-reason-8 c = search needs
 
-at-requires-2 : tie.Need-at-requires-2
-at-requires-2 c κs = search needs
+at-place-requires-2 : tie.Need-at-place-requires-2
+at-place-requires-2 c κs = search needs
 
 enum-known-reason-9 : tie.Need-enum-known-reason-9
 enum-known-reason-9 c = search needs
 
-at-requires-3 : tie.Need-at-requires-3
-at-requires-3 c κs = search needs
+at-place-requires-3 : tie.Need-at-place-requires-3
+at-place-requires-3 c κs = search needs
 
 enum-known-reason-10 : tie.Need-enum-known-reason-10
 enum-known-reason-10 c = search needs
 
-at-requires-4 : tie.Need-at-requires-4
-at-requires-4 c κs = search needs
+at-place-requires-4 : tie.Need-at-place-requires-4
+at-place-requires-4 c κs = search needs
 
 enum-known-reason-11 : tie.Need-enum-known-reason-11
 enum-known-reason-11 c = search needs
@@ -104,26 +104,26 @@ refusal-requires-12 c κs = search needs
 enum-known-reason-14 : tie.Need-enum-known-reason-14
 enum-known-reason-14 c = search needs
 
-at-requires-5 : tie.Need-at-requires-5
-at-requires-5 c κs = search needs
+at-place-requires-5 : tie.Need-at-place-requires-5
+at-place-requires-5 c κs = search needs
 
 enum-known-reason-15 : tie.Need-enum-known-reason-15
 enum-known-reason-15 c = search needs
 
-at-requires-6 : tie.Need-at-requires-6
-at-requires-6 c κs = search needs
+at-place-requires-6 : tie.Need-at-place-requires-6
+at-place-requires-6 c κs = search needs
 
 enum-known-reason-16 : tie.Need-enum-known-reason-16
 enum-known-reason-16 c = search needs
 
-at-requires-7 : tie.Need-at-requires-7
-at-requires-7 c κs = search needs
+at-place-requires-7 : tie.Need-at-place-requires-7
+at-place-requires-7 c κs = search needs
 
 enum-known-reason-17 : tie.Need-enum-known-reason-17
 enum-known-reason-17 c = search needs
 
-at-requires-8 : tie.Need-at-requires-8
-at-requires-8 c κs = search needs
+at-place-requires-8 : tie.Need-at-place-requires-8
+at-place-requires-8 c κs = search needs
 
 returns : tie.Need-returns
 returns c = c .refusal .ensures ∙ sym (ap refusalOf (c .before .enum-told .given .1))
@@ -147,16 +147,16 @@ returns-7 : tie.Need-returns-7
 returns-7 c = c .refusal7 .ensures ∙ sym (ap refusalOf (c .before .before .reason6 .given .1))
 
 returns-8 : tie.Need-returns-8
-returns-8 c = c .at .ensures ∙ sym (ap refusalOf (c .before .before .reason7 .given .1))
+returns-8 c = c .at-place .ensures ∙ sym (ap refusalOf (c .before .before .reason7 .given .1))
 
 returns-9 : tie.Need-returns-9
-returns-9 c = c .at2 .ensures ∙ sym (ap refusalOf (c .before .before .reason8 .given .1))
+returns-9 c = c .at-place2 .ensures ∙ sym (ap refusalOf (c .before .before .reason8 .given .1))
 
 returns-10 : tie.Need-returns-10
-returns-10 c = c .at3 .ensures ∙ sym (ap refusalOf (c .before .before .reason9 .given .1))
+returns-10 c = c .at-place3 .ensures ∙ sym (ap refusalOf (c .before .before .reason9 .given .1))
 
 returns-11 : tie.Need-returns-11
-returns-11 c = c .at4 .ensures ∙ sym (ap refusalOf (c .before .before .reason10 .given .1))
+returns-11 c = c .at-place4 .ensures ∙ sym (ap refusalOf (c .before .before .reason10 .given .1))
 
 returns-12 : tie.Need-returns-12
 returns-12 c = c .refusal8 .ensures ∙ sym (ap refusalOf (c .before .before .reason11 .given .1))
@@ -174,16 +174,16 @@ returns-16 : tie.Need-returns-16
 returns-16 c = c .refusal12 .ensures ∙ sym (ap refusalOf (c .before .enum-told3 .given .1))
 
 returns-17 : tie.Need-returns-17
-returns-17 c = c .at5 .ensures ∙ sym (ap refusalOf (c .before .before .reason14 .given .1))
+returns-17 c = c .at-place5 .ensures ∙ sym (ap refusalOf (c .before .before .reason14 .given .1))
 
 returns-18 : tie.Need-returns-18
-returns-18 c = c .at6 .ensures ∙ sym (ap refusalOf (c .before .before .reason15 .given .1))
+returns-18 c = c .at-place6 .ensures ∙ sym (ap refusalOf (c .before .before .reason15 .given .1))
 
 returns-19 : tie.Need-returns-19
-returns-19 c = c .at7 .ensures ∙ sym (ap refusalOf (c .before .before .reason16 .given .1))
+returns-19 c = c .at-place7 .ensures ∙ sym (ap refusalOf (c .before .before .reason16 .given .1))
 
 returns-20 : tie.Need-returns-20
-returns-20 c = c .at8 .ensures ∙ sym (ap refusalOf (c .before .before .reason17 .given .1))
+returns-20 c = c .at-place8 .ensures ∙ sym (ap refusalOf (c .before .before .reason17 .given .1))
 
 pub numbers-of-spec : {M : Type 1} → statement M
 numbers-of-spec =
@@ -204,13 +204,13 @@ numbers-of-spec =
     enum-known-reason-6
     refusal-requires-7
     enum-known-reason-7
-    at-requires
+    at-place-requires
     enum-known-reason-8
-    at-requires-2
+    at-place-requires-2
     enum-known-reason-9
-    at-requires-3
+    at-place-requires-3
     enum-known-reason-10
-    at-requires-4
+    at-place-requires-4
     enum-known-reason-11
     refusal-requires-8
     enum-told-2
@@ -222,13 +222,13 @@ numbers-of-spec =
     enum-told-3
     refusal-requires-12
     enum-known-reason-14
-    at-requires-5
+    at-place-requires-5
     enum-known-reason-15
-    at-requires-6
+    at-place-requires-6
     enum-known-reason-16
-    at-requires-7
+    at-place-requires-7
     enum-known-reason-17
-    at-requires-8
+    at-place-requires-8
     returns
     returns-2
     returns-3

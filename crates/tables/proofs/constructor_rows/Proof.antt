@@ -14,10 +14,10 @@ use Rattle.tables.proofs.constructor_rows.Statement.{statement}
 use Rattle.tables.proofs.constructor_rows.Tie as tie
 
 abbrev Inv-loop : tie.InvT-loop
-Inv-loop program n m rows₀ c₀ rows c = (c ≤ m) × (length rows ≡ 64) × ConstructorRows (payload program) c rows
+Inv-loop file m rows₀ c₀ rows c = (c ≤ m) × (length rows ≡ 64) × ConstructorRows (payload file) c rows
 
 abbrev μ-loop : tie.MeasureT-loop
-μ-loop program n m rows₀ c₀ rows c = m - c
+μ-loop file m rows₀ c₀ rows c = m - c
 
 wide-requires : tie.Need-wide-requires Inv-loop μ-loop
 wide-requires c κs = search needs
@@ -25,14 +25,18 @@ wide-requires c κs = search needs
 loop-holds : tie.Need-loop-holds Inv-loop μ-loop
 loop-holds c = (search needs, refl, record { row = λ k l. absurd (omega arith) })
 
-mul-constructor : tie.Need-mul-constructor Inv-loop μ-loop
-mul-constructor c = search needs
-
-add-constructor : tie.Need-add-constructor Inv-loop μ-loop
-add-constructor c = search needs
+constructor-offset-requires : tie.Need-constructor-offset-requires Inv-loop μ-loop
+constructor-offset-requires c κs = search needs
 
 constructor-requires : tie.Need-constructor-requires Inv-loop μ-loop
-constructor-requires c κs = (c .before .before .before .before .pre .1 .opened, constructor-there (c .before .before .before .before .pre .1) (c .before .loop .c) (omega (arith, c .before .before .wide .ensures .0)) .0)
+constructor-requires c κs =
+    let at-loop = c .before .before in
+    let at-wide = at-loop .before in
+    let start = at-wide .before .before in (
+      start .pre .parsed .verified,
+      rw (c .constructor-offset .ensures) (constructor-there (start .pre) (at-loop .loop .c)
+          (omega (arith, at-wide .wide .ensures .0)) .0),
+    )
 
 cast-name-row : tie.Need-cast-name-row Inv-loop μ-loop
 cast-name-row c = search needs
@@ -44,7 +48,10 @@ mul-rows : tie.Need-mul-rows Inv-loop μ-loop
 mul-rows c = search needs
 
 array-set-from-rows : tie.Need-array-set-from-rows Inv-loop μ-loop
-array-set-from-rows c = omega (arith, constructors-few (c .before .before .before .before .before .before .before .before .pre .1), c .before .before .before .before .before .before .wide .ensures .0)
+array-set-from-rows c =
+    let at-wide = c .before .before .before .before .before .before .before in
+    let start = at-wide .before .before in
+    omega (arith, constructors-few (start .pre), at-wide .wide .ensures .0)
 
 add-c : tie.Need-add-c Inv-loop μ-loop
 add-c c = search needs
@@ -53,7 +60,26 @@ loop-less : tie.Need-loop-less Inv-loop μ-loop
 loop-less c = search needs
 
 loop-again : tie.Need-loop-again Inv-loop μ-loop
-loop-again c = let few = constructors-few (c .before .before .before .before .before .before .before .before .pre .1) in let l = c .before .before .before .before .before .loop .inv .1 in (omega arith, length-set (c .before .before .before .before .before .loop .rows) (c .before .before .before .before .before .loop .c) (c .name-row .result) ∙ c .before .before .before .before .before .loop .inv .1, record { row = stored-each [] (λ k x. x ≡ constructorRow (constructorAt (payload (c .before .before .before .before .before .before .before .before .args .program .now)) (constructorOffset k))) (c .before .before .before .before .before .loop .rows) (c .before .before .before .before .before .loop .c) (c .name-row .result) (omega (arith, c .before .before .before .before .before .before .wide .ensures .0)) (c .before .before .before .before .before .loop .inv .2 .row) (c .name-row .ensures ∙ ap constructorRow (c .before .before .before .constructor .ensures)) })
+loop-again c =
+    let at-constructor = c .before .before .before in
+    let at-constructor-offset = at-constructor .before in
+    let at-loop = at-constructor-offset .before .before in
+    let at-wide = at-loop .before in
+    let start = at-wide .before .before in
+    let few = constructors-few (start .pre) in
+    let l = at-loop .loop .inv .1 in (
+      omega arith,
+      length-set (at-loop .loop .rows) (at-loop .loop .c) (c .name-row .result)
+          ∙ at-loop .loop .inv .1,
+      record {
+        row = stored-each [] (λ k x. x
+            ≡ constructorRow (constructorAt (payload (start .args .file .now))
+            (constructorOffset k))) (at-loop .loop .rows) (at-loop .loop .c) (c .name-row .result)
+            (omega (arith, at-wide .wide .ensures .0)) (at-loop .loop .inv .2 .row) (c .name-row .ensures
+            ∙ ap constructorRow (at-constructor .constructor .ensures
+            ∙ ap (constructorAt (payload (start .args .file .now))) (at-constructor-offset .constructor-offset .ensures)));
+      },
+    )
 
 returns : tie.Need-returns Inv-loop μ-loop
 returns c = record { row = λ k l. c .before .loop .inv .2 .row k (omega (arith, c .before .before .wide .ensures .0)) }
@@ -66,8 +92,7 @@ constructor-rows-spec =
     μ-loop
     wide-requires
     loop-holds
-    mul-constructor
-    add-constructor
+    constructor-offset-requires
     constructor-requires
     cast-name-row
     name-row-requires

@@ -14,10 +14,10 @@ use Rattle.tables.proofs.function_rows.Statement.{statement}
 use Rattle.tables.proofs.function_rows.Tie as tie
 
 abbrev Inv-loop : tie.InvT-loop
-Inv-loop program n heads m rows₀ g₀ rows g = (g ≤ m) × (length rows ≡ 32) × FunctionRows (payload program) g rows
+Inv-loop file heads m rows₀ g₀ rows g = (g ≤ m) × (length rows ≡ 32) × FunctionRows (payload file) g rows
 
 abbrev μ-loop : tie.MeasureT-loop
-μ-loop program n heads m rows₀ g₀ rows g = m - g
+μ-loop file heads m rows₀ g₀ rows g = m - g
 
 wide-requires : tie.Need-wide-requires Inv-loop μ-loop
 wide-requires c κs = search needs
@@ -29,28 +29,40 @@ mul-at : tie.Need-mul-at Inv-loop μ-loop
 mul-at c = search needs
 
 element-copy-out-at : tie.Need-element-copy-out-at Inv-loop μ-loop
-element-copy-out-at c = omega (arith, functions-few (c .before .before .before .before .pre), c .before .before .wide .ensures .0)
+element-copy-out-at c = omega (arith, functions-few (c .before .before .before .before .pre .headed), c .before .before .wide .ensures .0)
 
 head-requires : tie.Need-head-requires Inv-loop μ-loop
-head-requires c κs = let t = function-placed (c .before .before .before .before .before .pre) (c .before .before .loop .g) (omega (arith, c .before .before .before .wide .ensures .0)) .head in let z = c .before .before .before .before .before .pre .opened .long in (c .before .before .before .before .before .pre .opened, omega arith)
-
-add-code : tie.Need-add-code Inv-loop μ-loop
-add-code c = let t = function-placed (c .before .before .before .before .before .before .before .pre) (c .before .before .before .before .loop .g) (omega (arith, c .before .before .before .before .before .wide .ensures .0)) .head in let z = c .before .before .before .before .before .before .before .pre .opened .long in let y = c .before .before .before .before .before .before .before .pre .opened .small in omega arith
+head-requires c κs =
+    let at-loop = c .before .before in
+    let at-wide = at-loop .before in
+    let start = at-wide .before .before in
+    (start .pre .headed .parsed .verified, function-placed (start .pre) (at-loop .loop .g) (omega (arith, at-wide .wide .ensures .0)) .head)
 
 wide-requires-2 : tie.Need-wide-requires-2 Inv-loop μ-loop
 wide-requires-2 c κs = search needs
 
-mul-code : tie.Need-mul-code Inv-loop μ-loop
-mul-code c = search needs
-
-add-code-2 : tie.Need-add-code-2 Inv-loop μ-loop
-add-code-2 c = let t = function-placed (c .before .before .before .before .before .before .before .before .pre) (c .before .before .before .before .before .loop .g) (omega (arith, c .before .before .before .before .before .before .wide .ensures .0)) .head in let z = c .before .before .before .before .before .before .before .before .pre .opened .long in let y = c .before .before .before .before .before .before .before .before .pre .opened .small in omega (arith, c .wide2 .ensures .1)
+alternative-offset-requires : tie.Need-alternative-offset-requires Inv-loop μ-loop
+alternative-offset-requires c κs =
+    let at-loop = c .before .before .before .before .before in
+    let at-wide = at-loop .before in
+    let start = at-wide .before .before in
+    let t = function-placed (start .pre) (at-loop .loop .g) (omega (arith, at-wide .wide .ensures .0)) .head in
+    let y = start .pre .headed .parsed .verified .small in
+    (omega arith, omega (arith, c .wide2 .ensures .1))
 
 cast-name-row : tie.Need-cast-name-row Inv-loop μ-loop
 cast-name-row c = search needs
 
 cast-name-row-2 : tie.Need-cast-name-row-2 Inv-loop μ-loop
-cast-name-row-2 c = let t = function-placed (c .before .before .before .before .before .before .before .before .before .pre) (c .before .before .before .before .before .before .loop .g) (omega (arith, c .before .before .before .before .before .before .before .wide .ensures .0)) .head in let z = c .before .before .before .before .before .before .before .before .before .pre .opened .long in let y = c .before .before .before .before .before .before .before .before .before .pre .opened .small in omega (arith, c .before .wide2 .ensures .1)
+cast-name-row-2 c =
+    let at-alternative-offset = c .before in
+    let at-wide2 = at-alternative-offset .before in
+    let at-loop = at-wide2 .before .before .before .before .before in
+    let at-wide = at-loop .before in
+    let start = at-wide .before .before in
+    let t = function-placed (start .pre) (at-loop .loop .g) (omega (arith, at-wide .wide .ensures .0)) .head in
+    let y = start .pre .headed .parsed .verified .small in
+    omega (arith, at-alternative-offset .alternative-offset .ensures, at-wide2 .wide2 .ensures .1)
 
 name-row-requires : tie.Need-name-row-requires Inv-loop μ-loop
 name-row-requires c κs = search needs
@@ -59,7 +71,10 @@ mul-rows : tie.Need-mul-rows Inv-loop μ-loop
 mul-rows c = search needs
 
 array-set-from-rows : tie.Need-array-set-from-rows Inv-loop μ-loop
-array-set-from-rows c = omega (arith, functions-few (c .before .before .before .before .before .before .before .before .before .before .pre), c .before .before .before .before .before .before .before .before .wide .ensures .0)
+array-set-from-rows c =
+    let at-wide = c .before .before .before .before .before .before .before .before .before in
+    let start = at-wide .before .before in
+    omega (arith, functions-few (start .pre .headed), at-wide .wide .ensures .0)
 
 add-g : tie.Need-add-g Inv-loop μ-loop
 add-g c = search needs
@@ -68,7 +83,29 @@ loop-less : tie.Need-loop-less Inv-loop μ-loop
 loop-less c = search needs
 
 loop-again : tie.Need-loop-again Inv-loop μ-loop
-loop-again c = let few = functions-few (c .before .before .before .before .before .before .before .before .before .before .pre) in let l = c .before .before .before .before .before .before .before .loop .inv .1 in (omega arith, length-set (c .before .before .before .before .before .before .before .loop .rows) (c .before .before .before .before .before .before .before .loop .g) (c .name-row .result) ∙ c .before .before .before .before .before .before .before .loop .inv .1, record { row = stored-each [] (λ k x. x ≡ functionRow (headOffset (payload (c .before .before .before .before .before .before .before .before .before .before .args .program .now)) k) (headAt (payload (c .before .before .before .before .before .before .before .before .before .before .args .program .now)) (headOffset (payload (c .before .before .before .before .before .before .before .before .before .before .args .program .now)) k))) (c .before .before .before .before .before .before .before .loop .rows) (c .before .before .before .before .before .before .before .loop .g) (c .name-row .result) (omega (arith, c .before .before .before .before .before .before .before .before .wide .ensures .0)) (c .before .before .before .before .before .before .before .loop .inv .2 .row) (c .name-row .ensures ∙ function-row (payload (c .before .before .before .before .before .before .before .before .before .before .args .program .now)) (c .before .before .before .before .before .before .before .loop .g) (head-placed (c .before .before .before .before .before .before .before .before .before .before .pre) (c .before .before .before .before .before .before .before .loop .g) (omega (arith, c .before .before .before .before .before .before .before .before .wide .ensures .0))) (c .before .before .before .before .head .ensures) (c .before .before .wide2 .ensures .0)) })
+loop-again c =
+    let at-alternative-offset = c .before .before in
+    let at-wide2 = at-alternative-offset .before in
+    let at-head = at-wide2 .before .before in
+    let at-loop = at-head .before .before .before in
+    let at-wide = at-loop .before in
+    let start = at-wide .before .before in
+    let few = functions-few (start .pre .headed) in
+    let l = at-loop .loop .inv .1 in (
+      omega arith,
+      length-set (at-loop .loop .rows) (at-loop .loop .g) (c .name-row .result)
+          ∙ at-loop .loop .inv .1,
+      record {
+        row = stored-each [] (λ k x. x
+            ≡ functionRow (headOffset (payload (start .args .file .now)) k)
+            (headAt (payload (start .args .file .now))
+            (headOffset (payload (start .args .file .now)) k))) (at-loop .loop .rows) (at-loop .loop .g) (c .name-row .result)
+            (omega (arith, at-wide .wide .ensures .0)) (at-loop .loop .inv .2 .row) (c .name-row .ensures
+            ∙ function-row (payload (start .args .file .now)) (at-loop .loop .g)
+            (head-placed (start .pre) (at-loop .loop .g) (omega (arith, at-wide .wide .ensures .0))) (at-head .head .ensures)
+            (at-wide2 .wide2 .ensures .0) (at-alternative-offset .alternative-offset .ensures));
+      },
+    )
 
 returns : tie.Need-returns Inv-loop μ-loop
 returns c = record { row = λ k l. c .before .loop .inv .2 .row k (omega (arith, c .before .before .wide .ensures .0)) }
@@ -84,10 +121,8 @@ function-rows-spec =
     mul-at
     element-copy-out-at
     head-requires
-    add-code
     wide-requires-2
-    mul-code
-    add-code-2
+    alternative-offset-requires
     cast-name-row
     cast-name-row-2
     name-row-requires

@@ -1,15 +1,14 @@
 -- `timing::checks` is safe and ends: the repetitions that are left become fewer. Assumes nothing.
-use mathlib.Core.Path.{_≡_}
 use Prim.Native.Nat.{_≤_}
 use borrow.Author.Needs.{needs}
 use Rattle.timing.proofs.checks.Statement.{statement}
 use Rattle.timing.proofs.checks.Tie as tie
 
 abbrev Inv-loop : tie.InvT-loop
-Inv-loop program times sum₀ left₀ sum left = left ≤ times
+Inv-loop file times sum₀ left₀ sum left = left ≤ times
 
 abbrev μ-loop : tie.MeasureT-loop
-μ-loop program times sum₀ left₀ sum left = left
+μ-loop file times sum₀ left₀ sum left = left
 
 loop-holds : tie.Need-loop-holds Inv-loop μ-loop
 loop-holds c = search needs

@@ -1,6 +1,5 @@
 -- `timing::runs` is safe and ends: the repetitions that are left become fewer. Assumes nothing.
 use mathlib.Core.Path.{_≡_}
-use Prim.Native.Nat.{_≤_}
 use lib.ListN.{length}
 use borrow.Author.Needs.{needs}
 use Rattle.timing.proofs.runs.Statement.{statement}
@@ -11,7 +10,7 @@ Inv-loop program entry arguments budget cells₀ stack₀ frames₀ out₀ times
     (length cells ≡ length cells₀) × (length stack ≡ length stack₀) × (length frames ≡ length frames₀) × (length out ≡ length out₀)
 
 abbrev μ-loop : tie.MeasureT-loop
-μ-loop program entry arguments budget cells₀ stack₀ frames₀ out₀ times sum₀ left₀ cells stack frames out sum left = left
+μ-loop file entry arguments budget cells₀ stack₀ frames₀ out₀ times sum₀ left₀ cells stack frames out sum left = left
 
 loop-holds : tie.Need-loop-holds Inv-loop μ-loop
 loop-holds c = search needs

@@ -1,44 +1,91 @@
 -- `check_code` meets its contract: the first pass that refuses gives the refusal, and where none does the program is accepted.
-use Rattle.verifier.proofs.ExamineLaws.{flow-refused, flows, types-refused, sizes-ask, sizes-told}
+use Rattle.verifier.proofs.ExamineLaws.{flow-refused, flow-right, types-refused, types-right, sizes-told}
 use borrow.Author.Needs.{needs}
 use Rattle.verifier.proofs.check_code.Statement.{statement}
 use Rattle.verifier.proofs.check_code.Tie as tie
 
 constructor-rows-requires : tie.Need-constructor-rows-requires
-constructor-rows-requires c κs = (_, c .before .before .before .pre .opened)
+constructor-rows-requires c κs = c .before .before .before .pre .1 .headed
 
 function-rows-requires : tie.Need-function-rows-requires
-function-rows-requires c κs = search needs
+function-rows-requires c κs = c .before .before .before .before .before .pre .1
 
 flows-requires : tie.Need-flows-requires
-flows-requires c κs = ((_, c .before .before .before .before .before .before .before .pre .opened), c .before .function-rows .ensures)
+flows-requires c κs = (c .before .before .before .before .before .before .before .pre .1 .headed, c .before .function-rows .ensures)
 
 enum-known-flow : tie.Need-enum-known-flow
 enum-known-flow c = search needs
 
 returns : tie.Need-returns
-returns c = flow-refused (c .before .before .before .before .before .before .before .before .before .before .before .pre) (c .before .before .before .flows .ensures) _ (c .before .flow .given .1)
+returns c =
+    let at-flow = c .before in
+    let at-flows = at-flow .before .before in
+    let start = at-flows .before .before .before .before .before .before .before .before in
+    flow-refused (start .pre .0) (at-flows .flows .ensures) _ (at-flow .flow .given .1)
 
 enum-told : tie.Need-enum-told
 enum-told c = search needs
 
 types-requires : tie.Need-types-requires
-types-requires c κs = record { program = (_, c .before .before .before .before .before .before .before .before .before .before .before .before .pre .opened); flow = flows (c .before .before .before .before .before .before .before .before .before .before .before .before .pre) (c .before .before .before .before .flows .ensures) (c .before .before .enum-told .given .1); constructor = c .before .before .before .before .before .before .before .before .constructor-rows .ensures; function = c .before .before .before .before .before .before .function-rows .ensures }
+types-requires c κs =
+    let at-enum-told = c .before .before in
+    let at-flows = at-enum-told .before .before in
+    let at-function-rows = at-flows .before .before in
+    let at-constructor-rows = at-function-rows .before .before in
+    let start = at-constructor-rows .before .before .before .before in (
+      flow-right (start .pre .0) (at-flows .flows .ensures) (at-enum-told .enum-told .given .1),
+      record {
+        headed = start .pre .1 .headed;
+        constructor = at-constructor-rows .constructor-rows .ensures;
+        function = at-function-rows .function-rows .ensures;
+      },
+    )
 
 enum-known-types : tie.Need-enum-known-types
 enum-known-types c = search needs
 
 returns-2 : tie.Need-returns-2
-returns-2 c = types-refused (c .before .before .before .before .before .before .before .before .before .before .before .before .before .before .before .before .pre) (c .before .before .before .before .before .before .before .before .flows .ensures) (c .before .before .before .before .before .before .enum-told .given .1) (c .before .before .before .types .ensures) _ (c .before .types2 .given .1)
+returns-2 c =
+    let at-types2 = c .before in
+    let at-types = at-types2 .before .before in
+    let at-enum-told = at-types .before .before .before in
+    let at-flows = at-enum-told .before .before in
+    let start = at-flows .before .before .before .before .before .before .before .before in
+    types-refused (flow-right (start .pre .0) (at-flows .flows .ensures) (at-enum-told .enum-told .given .1)) (at-types .types .ensures) _
+    (at-types2 .types2 .given .1)
 
 enum-told-2 : tie.Need-enum-told-2
 enum-told-2 c = search needs
 
 sizes-requires : tie.Need-sizes-requires
-sizes-requires c κs = sizes-ask (c .before .before .before .before .before .before .before .before .before .before .before .before .before .before .before .before .before .before .pre) (c .before .before .before .before .before .before .before .before .before .before .flows .ensures) (c .before .before .before .before .before .before .before .before .enum-told .given .1) (c .before .before .before .before .before .types .ensures) (c .before .before .before .enum-told2 .given .1) (c .before .before .before .before .before .before .before .before .before .before .before .before .before .before .constructor-rows .ensures) (c .before .before .before .before .before .before .before .before .before .before .before .before .function-rows .ensures)
+sizes-requires c κs =
+    let at-enum-told2 = c .before .before .before in
+    let at-types = at-enum-told2 .before .before in
+    let at-enum-told = at-types .before .before .before in
+    let at-flows = at-enum-told .before .before in
+    let at-function-rows = at-flows .before .before in
+    let at-constructor-rows = at-function-rows .before .before in
+    let start = at-constructor-rows .before .before .before .before in (
+      types-right (flow-right (start .pre .0) (at-flows .flows .ensures)
+          (at-enum-told .enum-told .given .1)) (at-types .types .ensures) (at-enum-told2 .enum-told2 .given .1),
+      start .pre .1,
+      record {
+        headed = start .pre .1 .headed;
+        constructor = at-constructor-rows .constructor-rows .ensures;
+        function =
+            at-function-rows .function-rows .ensures;
+      },
+    )
 
 returns-3 : tie.Need-returns-3
-returns-3 c = sizes-told (c .before .before .before .before .before .before .before .before .before .before .before .before .before .before .before .before .before .before .before .pre) (c .before .before .before .before .before .before .before .before .before .before .before .flows .ensures) (c .before .before .before .before .before .before .before .before .before .enum-told .given .1) (c .before .before .before .before .before .before .types .ensures) (c .before .before .before .before .enum-told2 .given .1) (c .sizes .ensures)
+returns-3 c =
+    let at-enum-told2 = c .before .before .before .before in
+    let at-types = at-enum-told2 .before .before in
+    let at-enum-told = at-types .before .before .before in
+    let at-flows = at-enum-told .before .before in
+    let start = at-flows .before .before .before .before .before .before .before .before in
+    sizes-told (types-right (flow-right (start .pre .0) (at-flows .flows .ensures) (at-enum-told .enum-told .given .1))
+    (at-types .types .ensures) (at-enum-told2 .enum-told2 .given .1)) (c .sizes .ensures)
 
 pub check-code-spec : {M : Type 1} → statement M
 check-code-spec =

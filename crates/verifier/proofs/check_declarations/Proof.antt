@@ -1,5 +1,5 @@
 -- `check_declarations` meets its contract: records, declarations, bounds, each where those before it hold.
-use Rattle.verifier.proofs.ExamineLaws.{records-refused, laid-out, declarations-refused, bounds-told}
+use Rattle.verifier.proofs.ExamineLaws.{records-refused, declarations-refused, bounds-told}
 use borrow.Author.Needs.{needs}
 use Rattle.verifier.proofs.check_declarations.Statement.{statement}
 use Rattle.verifier.proofs.check_declarations.Tie as tie
@@ -11,28 +11,47 @@ enum-known-opened : tie.Need-enum-known-opened
 enum-known-opened c = search needs
 
 returns : tie.Need-returns
-returns c = records-refused (c .before .before .before .before .before .before .pre) (c .before .before .before .before .«open» .ensures) _ (c .before .opened .given .1) _
+returns c =
+    let at-opened = c .before in
+    let at-open = at-opened .before .before .before in
+    let start = at-open .before .before in
+    records-refused (start .pre) (at-open .«open» .ensures) _ (at-opened .opened .given .1) _
 
 enum-told : tie.Need-enum-told
 enum-told c = search needs
 
-declarations-requires : tie.Need-declarations-requires
-declarations-requires c κs = laid-out (c .before .before .before .before .before .pre) (c .before .before .before .«open» .ensures) (c .enum-told .given .1)
+declared-requires : tie.Need-declared-requires
+declared-requires c κs = c .before .before .before .«open» .ensures .program (c .enum-told .given .1)
 
 enum-known-declarations : tie.Need-enum-known-declarations
 enum-known-declarations c = search needs
 
 returns-2 : tie.Need-returns-2
-returns-2 c = declarations-refused (c .before .before .before .before .before .before .before .before .before .pre) (c .before .before .before .before .before .before .before .«open» .ensures) (c .before .before .before .before .enum-told .given .1) (c .before .before .before .declarations .ensures) _ (c .before .declarations2 .given .1)
+returns-2 c =
+    let at-declarations = c .before in
+    let at-declared = at-declarations .before .before in
+    let at-enum-told = at-declared .before in
+    let at-open = at-enum-told .before .before .before in
+    declarations-refused (at-open .«open» .ensures .program (at-enum-told .enum-told .given .1)) (at-declared .declared .ensures) _
+    (at-declarations .declarations .given .1)
 
 enum-told-2 : tie.Need-enum-told-2
 enum-told-2 c = search needs
 
-bounds-requires : tie.Need-bounds-requires
-bounds-requires c κs = laid-out (c .before .before .before .before .before .before .before .before .pre) (c .before .before .before .before .before .before .«open» .ensures) (c .before .before .before .enum-told .given .1)
+bounded-requires : tie.Need-bounded-requires
+bounded-requires c κs =
+    let at-enum-told = c .before .before .before in
+    let at-open = at-enum-told .before .before .before in
+    at-open .«open» .ensures .program (at-enum-told .enum-told .given .1)
 
 returns-3 : tie.Need-returns-3
-returns-3 c = bounds-told (c .before .before .before .before .before .before .before .before .before .pre) (c .before .before .before .before .before .before .before .«open» .ensures) (c .before .before .before .before .enum-told .given .1) (c .before .before .before .declarations .ensures) (c .before .enum-told2 .given .1) (c .bounds .ensures)
+returns-3 c =
+    let at-enum-told2 = c .before in
+    let at-declared = at-enum-told2 .before .before in
+    let at-enum-told = at-declared .before in
+    let at-open = at-enum-told .before .before .before in
+    bounds-told (at-open .«open» .ensures .program (at-enum-told .enum-told .given .1)) (at-declared .declared .ensures)
+    (at-enum-told2 .enum-told2 .given .1) (c .bounded .ensures)
 
 pub check-declarations-spec : {M : Type 1} → statement M
 check-declarations-spec =
@@ -42,9 +61,9 @@ check-declarations-spec =
     enum-known-opened
     returns
     enum-told
-    declarations-requires
+    declared-requires
     enum-known-declarations
     returns-2
     enum-told-2
-    bounds-requires
+    bounded-requires
     returns-3)

@@ -34,18 +34,34 @@ used-right-requires : tie.Need-used-right-requires
 used-right-requires c κs = search needs
 
 returns-2 : tie.Need-returns-2
-returns-2 c = sym (fields-tested _ _ _ _ (c .before .before .word-at2 .ensures) (numbered (c .before .before .before)) (sym (c .before .used-right .ensures) ∙ not-true _ (c .if2 .taken)) refl)
+returns-2 c =
+    let at-used-right = c .before in
+    let at-word-at2 = at-used-right .before in
+    let earlier = at-word-at2 .before in
+    sym (fields-tested _ _ _ _ (at-word-at2 .word-at2 .ensures) (numbered earlier)
+    (sym (at-used-right .used-right .ensures) ∙ not-true _ (c .if2 .taken)) refl)
 
 add-zero-between : tie.Need-add-zero-between
 add-zero-between c = search needs
 
 zero-between-requires : tie.Need-zero-between-requires
-zero-between-requires c κs = omega (arith, used-small _ _ (sym (c .before .used-right .ensures) ∙ not-false _ (c .if2 .left)), c .before .before .before .before .before .before .pre)
+zero-between-requires c κs =
+    omega (
+      arith,
+      used-small _ _ (sym (c .before .used-right .ensures)
+          ∙ not-false _ (c .if2 .left)),
+      c .before .before .before .before .before .before .pre,
+    )
 
 returns-3 : tie.Need-returns-3
 returns-3 c =
+    let at-if2 = c .before in
+    let at-used-right = at-if2 .before in
+    let at-word-at2 = at-used-right .before in
+    let earlier = at-word-at2 .before in
     c .zero-between .ensures
-    ∙ sym (fields-tested _ _ _ _ (c .before .before .before .word-at2 .ensures) (numbered (c .before .before .before .before)) (sym (c .before .before .used-right .ensures) ∙ not-false _ (c .before .if2 .left)) refl)
+    ∙ sym (fields-tested _ _ _ _ (at-word-at2 .word-at2 .ensures) (numbered earlier)
+    (sym (at-used-right .used-right .ensures) ∙ not-false _ (at-if2 .if2 .left)) refl)
 
 pub block-right-spec : {M : Type 1} → statement M
 block-right-spec =

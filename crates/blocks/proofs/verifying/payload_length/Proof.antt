@@ -1,8 +1,9 @@
--- `blocks::verifying::payload_length` meets its contract: verified blocks are whole, and the last one's used count gives the length. Assumes nothing.
+-- `blocks::verifying::payload_length` meets its contract: verified blocks are whole, and the last one's used count gives the length.
+-- Assumes nothing.
 use native.Mathlib.Omega.{arith}
 use borrow.Author.Needs.{needs}
 use Rattle.rules.proofs.ContainerLaws.{verified-whole}
-use Rattle.blocks.proofs.OpenLaws.{opened-last}
+use Rattle.blocks.proofs.VerifyLaws.{measured-last}
 use Rattle.blocks.proofs.verifying.payload_length.Statement.{statement}
 use Rattle.blocks.proofs.verifying.payload_length.Tie as tie
 
@@ -28,7 +29,7 @@ add-result : tie.Need-add-result
 add-result c = search needs
 
 returns : tie.Need-returns
-returns c = opened-last _ _ (c .before .before .pre) (omega (arith, c .word-at .ensures))
+returns c = measured-last _ _ (c .before .before .pre) (omega (arith, c .word-at .ensures))
 
 pub payload-length-spec : {M : Type 1} → statement M
 payload-length-spec =

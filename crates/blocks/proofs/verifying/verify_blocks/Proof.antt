@@ -16,10 +16,10 @@ use Rattle.blocks.proofs.verifying.verify_blocks.Statement.{statement}
 use Rattle.blocks.proofs.verifying.verify_blocks.Tie as tie
 
 abbrev Inv-loop : tie.InvT-loop
-Inv-loop program len n k₀ k = (k ≤ n) × (verify program ≡ verifyBlocks (n - k) k (drop (512 * k) program))
+Inv-loop file len n k₀ k = (k ≤ n) × (verify file ≡ verifyBlocks (n - k) k (drop (512 * k) file))
 
 abbrev μ-loop : tie.MeasureT-loop
-μ-loop program len n k₀ k = n - k
+μ-loop file len n k₀ k = n - k
 
 returns : tie.Need-returns Inv-loop μ-loop
 unfolding lengthRight
@@ -36,8 +36,11 @@ returns-3 c = sym (verify-refused _ (simp (ne-eqb _ _ (c .if3 .taken), and-false
 loop-holds : tie.Need-loop-holds Inv-loop μ-loop
 unfolding lengthRight
 loop-holds c =
-    let s = c .before .before .before .before .args .program .now in
-    (omega arith, rw sub-zero (verify-begun s (simp (le-leb 1 (length s) (omega arith), le-leb (length s) 32768 (omega arith), eq-eqb _ _ (c .if3 .left)))))
+    let s = c .before .before .before .before .args .file .now in (
+      omega arith,
+      rw sub-zero (verify-begun s
+          (simp (le-leb 1 (length s) (omega arith), le-leb (length s) 32768 (omega arith), eq-eqb _ _ (c .if3 .left)))),
+    )
 
 mul-at : tie.Need-mul-at Inv-loop μ-loop
 mul-at c = omega arith
@@ -68,13 +71,16 @@ enum-known-checked c = search needs
 
 -- block k as it was found, and those behind it
 left : (c : tie.After-verify-block Inv-loop μ-loop)
-    → let s = c .before .before .before .before .before .before .before .before .args .program .now in
+    → let s = c .before .before .before .before .before .before .before .before .args .file .now in
     let k = c .before .before .before .loop .k in
     verify s ≡ (toldCheck (c .verify-block .result) >>= (λ _. verifyBlocks (length s / 512 - (k + 1)) (k + 1) (drop (512 * (k + 1)) s)))
 left c =
-    let s = c .before .before .before .before .before .before .before .before .args .program .now in
-    let k = c .before .before .before .loop .k in
-    c .before .before .before .loop .inv .1 ∙ blocks-found (length s / 512) k (512 * k + 512 - 512 * k) s (c .verify-block .result) (omega arith) (omega arith) (c .verify-block .ensures)
+    let at-loop = c .before .before .before in
+    let start = at-loop .before .before .before .before .before in
+    let s = start .args .file .now in
+    let k = at-loop .loop .k in
+    at-loop .loop .inv .1 ∙ blocks-found (length s / 512) k (512 * k + 512 - 512 * k) s (c .verify-block .result) (omega arith)
+    (omega arith) (c .verify-block .ensures)
 
 returns-4 : tie.Need-returns-4 Inv-loop μ-loop
 returns-4 c = sym (left (c .before .before .before) ∙ rw (c .before .checked .given .1))
@@ -91,7 +97,7 @@ loop-again c = (omega arith, left (c .before .before) ∙ rw (c .enum-told .give
 returns-5 : tie.Need-returns-5 Inv-loop μ-loop
 unfolding verifyBlocks
 returns-5 c =
-    let none : length (c .before .before .before .before .before .before .args .program .now) / 512 - c .before .loop .k ≡ 0 = omega arith in
+    let none : length (c .before .before .before .before .before .before .args .file .now) / 512 - c .before .loop .k ≡ 0 = omega arith in
     sym (c .before .loop .inv .1 ∙ rw none)
 
 pub verify-blocks-spec : {M : Type 1} → statement M

@@ -24,10 +24,12 @@ shared-slice-read-if1 c = omega arith
 
 returns : tie.Need-returns Inv-loop μ-loop
 returns c =
-    let b = c .before .before .before .before .args .b .now in
-    let i = c .before .before .before .loop .i in
-    let to = c .before .before .before .before .args .to in
-    rw (c .before .before .before .loop .inv .1, part-cons b i to (omega arith) (omega arith), ne-eqb _ _ (c .if1 .taken))
+    let at-loop = c .before .before .before in
+    let start = at-loop .before in
+    let b = start .args .b .now in
+    let i = at-loop .loop .i in
+    let to = start .args .to in
+    rw (at-loop .loop .inv .1, part-cons b i to (omega arith) (omega arith), ne-eqb _ _ (c .if1 .taken))
 
 add-i : tie.Need-add-i Inv-loop μ-loop
 add-i c = omega arith
@@ -37,10 +39,12 @@ loop-less c = omega arith
 
 loop-again : tie.Need-loop-again Inv-loop μ-loop
 loop-again c =
-    let b = c .before .before .before .before .args .b .now in
-    let i = c .before .before .before .loop .i in
-    let to = c .before .before .before .before .args .to in
-    (omega arith, c .before .before .before .loop .inv .1 ∙ rw (part-cons b i to (omega arith) (omega arith), eq-eqb _ _ (c .if1 .left)))
+    let at-loop = c .before .before .before in
+    let start = at-loop .before in
+    let b = start .args .b .now in
+    let i = at-loop .loop .i in
+    let to = start .args .to in
+    (omega arith, at-loop .loop .inv .1 ∙ rw (part-cons b i to (omega arith) (omega arith), eq-eqb _ _ (c .if1 .left)))
 
 returns-2 : tie.Need-returns-2 Inv-loop μ-loop
 returns-2 c =

@@ -1,6 +1,5 @@
 -- `cases::input::line_end` meets its contract: the place stays between the bounds. Assumes nothing.
-use Prim.Native.Nat.{ℕ, _+_, _*_, _-_, _≤_}
-use lib.ListN.{length}
+use Prim.Native.Nat.{_-_, _≤_}
 use borrow.Author.Needs.{needs}
 use Rattle.cases.proofs.input.line_end.Statement.{statement}
 use Rattle.cases.proofs.input.line_end.Tie as tie

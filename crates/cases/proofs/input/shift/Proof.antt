@@ -1,6 +1,6 @@
 -- `cases::input::shift` is safe and ends: a byte goes to a place at or before its own. Assumes nothing.
 use mathlib.Core.Path.{_≡_}
-use Prim.Native.Nat.{ℕ, _+_, _*_, _-_, _≤_}
+use Prim.Native.Nat.{_-_, _≤_}
 use lib.ListN.{length}
 use borrow.Author.Needs.{needs}
 use Rattle.cases.proofs.input.shift.Statement.{statement}

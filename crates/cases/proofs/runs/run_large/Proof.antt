@@ -1,6 +1,5 @@
 -- `cases::runs::run_large` is safe and ends: a filled table is as long as it is declared. Assumes nothing.
 use Rattle.cases.proofs.FillLaws.{filled-long}
-use borrow.Author.Needs.{needs}
 use Rattle.cases.proofs.runs.run_large.Statement.{statement}
 use Rattle.cases.proofs.runs.run_large.Tie as tie
 
@@ -23,4 +22,6 @@ returns : tie.Need-returns
 returns c = tt
 
 pub run-large-spec : {M : Type 1} → statement M
-run-large-spec = tie.close (tie.spec slice-aggregate-run-in slice-aggregate-run-in-2 slice-aggregate-run-in-3 slice-aggregate-run-in-4 run-in-requires returns)
+run-large-spec =
+    tie.close (tie.spec slice-aggregate-run-in slice-aggregate-run-in-2 slice-aggregate-run-in-3 slice-aggregate-run-in-4 run-in-requires
+    returns)

@@ -7,17 +7,20 @@ use Rattle.interpreter.proofs.finish.deliver.Tie as tie
 cast-steps : tie.Need-cast-steps
 cast-steps c = search needs
 
-enum-known-how : tie.Need-enum-known-how
-enum-known-how c = search needs
+enum-known-halt : tie.Need-enum-known-halt
+enum-known-halt c = search needs
 
 deliver-result-requires : tie.Need-deliver-result-requires
-deliver-result-requires c κs = (rw (c .before .before .how .given .1) at (c .before .before .before .before .before .before .before .before .pre .0), c .before .before .before .before .before .before .before .before .pre .1 .1)
+deliver-result-requires c κs =
+    let at-halt = c .before .before in
+    let start = at-halt .before .before .before .before .before .before in
+    (rw (at-halt .halt .given .1) at (start .pre .0), start .pre .1 .1)
 
 same-length : tie.Need-same-length
 same-length c = search needs
 
 returns : tie.Need-returns
-returns c = rw (c .before .before .before .before .before .how .given .1) (c .before .before .deliver-result .ensures)
+returns c = rw (c .before .before .before .before .before .halt .given .1) (c .before .before .deliver-result .ensures)
 
 enum-told : tie.Need-enum-told
 enum-told c = search needs
@@ -54,7 +57,7 @@ deliver-spec =
     tie.close
     (tie.spec
     cast-steps
-    enum-known-how
+    enum-known-halt
     deliver-result-requires
     same-length
     returns

@@ -12,13 +12,21 @@ returns : tie.Need-returns
 returns c = delivers-short _ _ _ (c .before .count .ensures) (omega (arith, c .if1 .taken, c .before .count .ensures))
 
 write-requires : tie.Need-write-requires
-write-requires c κs = (c .before .before .before .before .before .before .pre .0, (omega (arith, c .before .if1 .left, c .before .before .count .ensures), c .before .before .before .before .before .before .pre .1))
+write-requires c κs =
+    let at-if1 = c .before in
+    let at-count = at-if1 .before in
+    let start = at-count .before .before .before .before in
+    (start .pre .0, (omega (arith, at-if1 .if1 .left, at-count .count .ensures), start .pre .1))
 
 same-length : tie.Need-same-length
 same-length c = search needs
 
 returns-2 : tie.Need-returns-2
-returns-2 c = delivers-result _ _ _ (c .before .before .before .before .before .count .ensures) (omega (arith, c .before .before .before .before .if1 .left, c .before .before .before .before .before .count .ensures)) (c .before .before .write .ensures)
+returns-2 c =
+    let at-write = c .before .before in
+    let at-if1 = at-write .before .before in
+    let at-count = at-if1 .before in
+    delivers-result _ _ _ (at-count .count .ensures) (omega (arith, at-if1 .if1 .left, at-count .count .ensures)) (at-write .write .ensures)
 
 pub deliver-result-spec : {M : Type 1} → statement M
 deliver-result-spec =

@@ -14,7 +14,12 @@ not-begun-requires : tie.Need-not-begun-requires
 not-begun-requires c κs = search needs
 
 returns : tie.Need-returns
-returns c = rw (c .not-begun .ensures) (no-entry (c .before .before .before .before .before .before .before .before .before .before .before .pre .0) _ _ _ _ _ _ _ (omega (arith, c .before .if1 .taken, c .before .before .wide .ensures .0)))
+returns c =
+    let at-if1 = c .before in
+    let at-wide = at-if1 .before in
+    let start = at-wide .before .before .before .before .before .before .before .before .before in
+    rw (c .not-begun .ensures) (no-entry (start .pre .0) (start .pre .1) _ _ _ _ _
+    (omega (arith, at-if1 .if1 .taken, at-wide .wide .ensures .0)))
 
 index-of-requires : tie.Need-index-of-requires
 index-of-requires c κs = search needs
@@ -23,10 +28,18 @@ mul-head : tie.Need-mul-head
 mul-head c = search needs
 
 array-read-head : tie.Need-array-read-head
-array-read-head c = omega (arith, c .before .before .if1 .left, c .before .before .before .wide .ensures .0, functions-few (c .before .before .before .before .before .before .before .before .before .before .before .before .pre .0 .opened))
+array-read-head c =
+    let at-if1 = c .before .before in
+    let at-wide = at-if1 .before in
+    let start = at-wide .before .before .before .before .before .before .before .before .before in
+    omega (arith, at-if1 .if1 .left, at-wide .wide .ensures .0, functions-few (start .pre .1 .headed))
 
 check-arguments-requires : tie.Need-check-arguments-requires
-check-arguments-requires c κs = (c .before .index-of .ensures, head-there (c .before .before .before .before .before .before .before .before .before .before .before .before .before .pre .0) _ (c .before .before .before .before .before .before .before .before .before .before .before .before .before .args .arguments .now) (c .before .before .before .before .before .before .before .before .before .before .before .before .before .args .budget) (c .before .before .before .before .before .before .before .before .before .before .before .before .before .args .cells .now) (c .before .before .before .before .before .before .before .before .before .before .before .before .before .args .stack .now) (c .before .before .before .before .before .before .before .before .before .before .before .before .before .args .frames .now) (c .before .before .before .before .before .before .before .before .before .before .before .before .before .args .out .now) (omega (arith, c .before .before .before .if1 .left, c .before .before .before .before .wide .ensures .0)) refl)
+check-arguments-requires c κs =
+    let at-if1 = c .before .before in
+    let at-wide = at-if1 .before in
+    let start = at-wide .before .before .before .before .before .before .before .before .before in
+    (start .pre .1 .headed .parsed, head-there (start .pre .1) (omega (arith, at-if1 .if1 .left, at-wide .wide .ensures .0)) refl)
 
 enum-known-right : tie.Need-enum-known-right
 enum-known-right c = search needs
@@ -35,13 +48,32 @@ not-begun-requires-2 : tie.Need-not-begun-requires-2
 not-begun-requires-2 c κs = search needs
 
 returns-2 : tie.Need-returns-2
-returns-2 c = rw (c .not-begun2 .ensures) (bad-arguments (c .before .before .before .before .before .before .before .before .before .before .before .before .before .before .before .before .before .before .pre .0) _ _ _ _ _ _ _ (omega (arith, c .before .before .before .before .before .before .before .before .if1 .left, c .before .before .before .before .before .before .before .before .before .wide .ensures .0)) refl (c .before .before .before .before .check-arguments .ensures) _ (c .before .before .right .given .1))
+returns-2 c =
+    let at-right = c .before .before in
+    let at-check-arguments = at-right .before .before in
+    let at-if1 = at-check-arguments .before .before .before in
+    let at-wide = at-if1 .before in
+    let start = at-wide .before .before .before .before .before .before .before .before .before in
+    rw (c .not-begun2 .ensures) (bad-arguments (start .pre .0) (start .pre .1) _ _ _ _ _
+    (omega (arith, at-if1 .if1 .left, at-wide .wide .ensures .0)) refl (at-check-arguments .check-arguments .ensures) _
+    (at-right .right .given .1))
 
 enum-told : tie.Need-enum-told
 enum-told c = search needs
 
 run-called-requires : tie.Need-run-called-requires
-run-called-requires c κs = (callable (c .before .before .before .before .before .before .before .before .before .before .before .before .before .before .before .before .before .before .before .before .before .pre .0) _ (c .before .before .before .before .before .before .before .before .before .before .before .before .before .before .before .before .before .before .before .before .before .args .arguments .now) (c .before .before .before .before .before .before .before .before .before .before .before .before .before .before .before .before .before .before .before .before .before .args .budget) (c .before .before .before .before .before .before .before .before .before .before .before .before .before .before .before .before .before .before .before .before .before .args .cells .now) (c .before .before .before .before .before .before .before .before .before .before .before .before .before .before .before .before .before .before .before .before .before .args .stack .now) (c .before .before .before .before .before .before .before .before .before .before .before .before .before .before .before .before .before .before .before .before .before .args .frames .now) (c .before .before .before .before .before .before .before .before .before .before .before .before .before .before .before .before .before .before .before .before .before .args .out .now) (omega (arith, c .before .before .before .before .before .before .before .before .before .before .before .if1 .left, c .before .before .before .before .before .before .before .before .before .before .before .before .wide .ensures .0)) refl (c .before .before .before .before .before .before .before .check-arguments .ensures) (c .before .before .before .before .before .before .before .before .before .index-of .ensures) (c .before .before .before .before .before .enum-told .given .1), c .before .before .before .before .before .before .before .before .before .before .before .before .before .before .before .before .before .before .before .before .before .pre .1)
+run-called-requires c κs =
+    let at-enum-told = c .before .before .before .before .before in
+    let at-check-arguments = at-enum-told .before .before in
+    let at-index-of = at-check-arguments .before in
+    let at-if1 = at-index-of .before .before in
+    let at-wide = at-if1 .before in
+    let start = at-wide .before .before .before .before .before .before .before .before .before in (
+      callable (start .pre .0) (start .pre .1)
+          (omega (arith, at-if1 .if1 .left, at-wide .wide .ensures .0)) refl (at-check-arguments .check-arguments .ensures)
+          (at-index-of .index-of .ensures) (at-enum-told .enum-told .given .1),
+      start .pre .2,
+    )
 
 same-length : tie.Need-same-length
 same-length c = search needs

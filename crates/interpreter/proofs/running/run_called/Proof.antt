@@ -10,28 +10,69 @@ limits-requires : tie.Need-limits-requires
 limits-requires c κs = search needs
 
 function-arity-requires : tie.Need-function-arity-requires
-function-arity-requires c κs = (c .before .before .before .before .before .before .before .pre .0 .indexed, known-entry (c .before .before .before .before .before .before .before .pre .0))
+function-arity-requires c κs =
+    let start = c .before .before .before .before .before .before .before in
+    (start .pre .0 .indexed, known-entry (start .pre .0))
 
 not-begun-requires : tie.Need-not-begun-requires
 not-begun-requires c κs = search needs
 
 returns : tie.Need-returns
-returns c = rw (c .not-begun .ensures) (out-of-frames (c .before .before .before .before .before .before .before .before .before .before .before .pre .0) _ _ _ _ _ (sym (c .before .before .before .before .limits .ensures .2) ∙ c .before .if1 .taken))
+returns c =
+    let at-if1 = c .before in
+    let at-limits = at-if1 .before .before .before in
+    let start = at-limits .before .before .before .before .before .before .before in
+    rw (c .not-begun .ensures) (out-of-frames (start .pre .0) _ _ _ _ _ (sym (at-limits .limits .ensures .2) ∙ at-if1 .if1 .taken))
 
 not-begun-requires-2 : tie.Need-not-begun-requires-2
 not-begun-requires-2 c κs = search needs
 
 returns-2 : tie.Need-returns-2
-returns-2 c = rw (c .not-begun2 .ensures) (out-of-stack (c .before .before .before .before .before .before .before .before .before .before .before .before .before .pre .0) _ _ _ _ _ (omega (arith, c .before .before .before .before .before .before .limits .ensures .2, c .before .before .before .if1 .left)) (omega (arith, c .before .before .before .before .before .before .limits .ensures .1, c .before .if2 .taken, inputs-are (c .before .before .before .before .before .before .before .before .before .before .before .before .before .pre .0) (c .before .before .before .before .before .function-arity .ensures .0))))
+returns-2 c =
+    let at-if2 = c .before in
+    let at-if1 = at-if2 .before .before in
+    let at-function-arity = at-if1 .before .before in
+    let at-limits = at-function-arity .before in
+    let start = at-limits .before .before .before .before .before .before .before in
+    rw (c .not-begun2 .ensures) (out-of-stack (start .pre .0) _ _ _ _ _ (omega (arith, at-limits .limits .ensures .2, at-if1 .if1 .left))
+    (omega (
+      arith,
+      at-limits .limits .ensures .1,
+      at-if2 .if2 .taken,
+      inputs-are (start .pre .0)
+          (at-function-arity .function-arity .ensures .0),
+    )))
 
 not-begun-requires-3 : tie.Need-not-begun-requires-3
 not-begun-requires-3 c κs = search needs
 
 returns-3 : tie.Need-returns-3
-returns-3 c = rw (c .not-begun3 .ensures) (out-of-cells (c .before .before .before .before .before .before .before .before .before .before .before .before .before .before .before .pre .0) _ _ _ _ _ (omega (arith, c .before .before .before .before .before .before .before .before .limits .ensures .2, c .before .before .before .before .before .if1 .left)) (omega (arith, c .before .before .before .before .before .before .before .before .limits .ensures .1, c .before .before .before .if2 .left, inputs-are (c .before .before .before .before .before .before .before .before .before .before .before .before .before .before .before .pre .0) (c .before .before .before .before .before .before .before .function-arity .ensures .0))) (omega (arith, c .before .before .before .before .before .before .before .before .limits .ensures .0, c .before .if3 .taken)))
+returns-3 c =
+    let at-if3 = c .before in
+    let at-if2 = at-if3 .before .before in
+    let at-if1 = at-if2 .before .before in
+    let at-function-arity = at-if1 .before .before in
+    let at-limits = at-function-arity .before in
+    let start = at-limits .before .before .before .before .before .before .before in
+    rw (c .not-begun3 .ensures) (out-of-cells (start .pre .0) _ _ _ _ _ (omega (arith, at-limits .limits .ensures .2, at-if1 .if1 .left))
+    (omega (
+      arith,
+      at-limits .limits .ensures .1,
+      at-if2 .if2 .left,
+      inputs-are (start .pre .0)
+          (at-function-arity .function-arity .ensures .0),
+    )) (omega (arith, at-limits .limits .ensures .0, at-if3 .if3 .taken)))
 
 run-begun-requires : tie.Need-run-begun-requires
-run-begun-requires c κs = beginning (c .before .before .before .before .before .before .before .before .before .before .before .before .before .before .before .before .before .before .pre .0) _ _ _ _ _ (c .before .before .before .before .before .before .before .before .before .before .before .before .before .before .before .before .before .before .pre .1) (c .before .before .before .before .before .before .before .before .before .before .before .limits .ensures) (c .before .before .before .before .before .before .before .before .before .before .function-arity .ensures .0) (omega (arith, c .before .before .before .before .before .before .before .before .if1 .left)) (omega (arith, c .before .before .before .before .before .before .if2 .left)) (omega (arith, c .before .before .before .before .if3 .left))
+run-begun-requires c κs =
+    let at-if3 = c .before .before .before .before in
+    let at-if2 = at-if3 .before .before in
+    let at-if1 = at-if2 .before .before in
+    let at-function-arity = at-if1 .before .before in
+    let at-limits = at-function-arity .before in
+    let start = at-limits .before .before .before .before .before .before .before in
+    beginning (start .pre .0) _ _ _ _ _ (start .pre .1) (at-limits .limits .ensures) (at-function-arity .function-arity .ensures .0)
+    (omega (arith, at-if1 .if1 .left)) (omega (arith, at-if2 .if2 .left)) (omega (arith, at-if3 .if3 .left))
 
 same-length : tie.Need-same-length
 same-length c = search needs

@@ -1,5 +1,5 @@
 -- A constructor, its arguments and zeros are a cell.
-use Prim.Native.Nat.{_-_, _*_}
+use Prim.Native.Nat.{_*_}
 use mathlib.Core.Path.{_∙_}
 use native.Mathlib.Omega.{arith}
 use lib.ListN.{length-set}
@@ -17,11 +17,13 @@ mul-cells c = search needs
 slice-write-cells : tie.Need-slice-write-cells
 slice-write-cells c = search needs
 
-add-spill : tie.Need-add-spill
-add-spill c = search needs
+add-copy : tie.Need-add-copy
+add-copy c = search needs
 
-spill-requires : tie.Need-spill-requires
-spill-requires c κs = let a = c .before .before .before .args in (search needs, omega (arith, length-set (a .cells .now) (5 * a .used) (a .c)))
+copy-requires : tie.Need-copy-requires
+copy-requires c κs =
+    let a = c .before .before .before .args in
+    (search needs, omega (arith, length-set (a .cells .now) (5 * a .used) (a .c)))
 
 add-clear : tie.Need-add-clear
 add-clear c = search needs
@@ -33,13 +35,26 @@ sub-clear : tie.Need-sub-clear
 sub-clear c = search needs
 
 clear-requires : tie.Need-clear-requires
-clear-requires c κs = let a = c .before .before .before .before .before .before .before .args in omega (arith, length-set (a .cells .now) (5 * a .used) (a .c), c .before .before .before .spill .ensures .len)
+clear-requires c κs =
+    let at-copy = c .before .before .before in
+    let start = at-copy .before .before .before .before in
+    let a = start .args in omega (arith, length-set (a .cells .now) (5 * a .used) (a .c), at-copy .copy .ensures .len)
 
 same-length : tie.Need-same-length
-same-length c = let a = c .before .before .before .before .before .before .before .before .before .before .args in c .before .before .clear .ensures .len ∙ c .before .before .before .before .before .before .spill .ensures .len ∙ length-set (a .cells .now) (5 * a .used) (a .c)
+same-length c =
+    let at-clear = c .before .before in
+    let at-copy = at-clear .before .before .before .before in
+    let start = at-copy .before .before .before .before in
+    let a = start .args in at-clear .clear .ensures .len ∙ at-copy .copy .ensures .len ∙ length-set (a .cells .now) (5 * a .used) (a .c)
 
 returns : tie.Need-returns
-returns c = let a = c .before .before .before .before .before .before .before .before .before .before .args in placed (a .used) (a .c) (a .n) _ (a .from) (a .cells .now) _ _ (omega arith) (omega arith) (c .before .before .before .before .before .before .spill .ensures) (c .before .before .clear .ensures)
+returns c =
+    let at-clear = c .before .before in
+    let at-copy = at-clear .before .before .before .before in
+    let start = at-copy .before .before .before .before in
+    let a = start .args in
+    placed (a .used) (a .c) (a .n) _ (a .from) (a .cells .now) _ _ (omega arith) (omega arith) (at-copy .copy .ensures)
+    (at-clear .clear .ensures)
 
 pub put-cell-spec : {M : Type 1} → statement M
 put-cell-spec =
@@ -48,8 +63,8 @@ put-cell-spec =
     mul-base
     mul-cells
     slice-write-cells
-    add-spill
-    spill-requires
+    add-copy
+    copy-requires
     add-clear
     add-clear-2
     sub-clear

@@ -16,7 +16,11 @@ wide32-requires : tie.Need-wide32-requires
 wide32-requires c κs = search needs
 
 returns : tie.Need-returns
-returns c = let a = constructor-read _ _ (c .before .before .before .pre .0) (c .before .before .before .args .c) (c .before .before .before .pre .1) in let e = c .wide32 .ensures .0 ∙ a .1 in (e, rw e (a .2))
+returns c =
+    let start = c .before .before .before in
+    let a = constructor-read _ _ (start .pre .0) (start .args .c) (start .pre .1) in
+    let e = c .wide32 .ensures .0 ∙ a .1 in
+    (e, rw e (a .2))
 
 pub constructor-arity-spec : {M : Type 1} → statement M
 constructor-arity-spec =

@@ -19,7 +19,9 @@ wide32-requires : tie.Need-wide32-requires
 wide32-requires c κs = search needs
 
 returns : tie.Need-returns
-returns c = let a = function-read _ _ (c .before .before .before .pre .0) (c .before .before .before .args .f) (c .before .before .before .pre .1) in let e = c .wide32 .ensures .0 ∙ a .1 in (e, rw e (a .2))
+returns c =
+    let start = c .before .before .before in
+    let a = function-read _ _ (start .pre .0) (start .args .f) (start .pre .1) in let e = c .wide32 .ensures .0 ∙ a .1 in (e, rw e (a .2))
 
 pub function-arity-spec : {M : Type 1} → statement M
 function-arity-spec =

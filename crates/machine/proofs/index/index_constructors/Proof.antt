@@ -1,6 +1,8 @@
 -- `index_constructors` meets its contract: at each turn the constructors below `c` are indexed.
-use mathlib.Core.Path.{subst}
-use Prim.Native.Nat.{ℕ, _-_, _≤_}
+use Prim.Native.Nat.{ℕ, _+_, _-_, _≤_}
+use mathlib.Core.Path.{ap, _∙_}
+use Rattle.rules.specs.Base.{byteAt}
+use Rattle.rules.specs.Container.{payload}
 use native.Mathlib.Omega.{arith}
 use borrow.Author.Needs.{needs}
 use Rattle.machine.specs.Indexing.{Constructed}
@@ -9,25 +11,28 @@ use Rattle.machine.proofs.index.index_constructors.Statement.{statement
 use Rattle.machine.proofs.index.index_constructors.Tie as tie
 
 abbrev Inv-loop : tie.InvT-loop
-Inv-loop program n count index₀ c₀ index c = (c ≤ count) × Constructed program n c index
+Inv-loop file count index₀ c₀ index c = (c ≤ count) × Constructed file c index
 
 abbrev μ-loop : tie.MeasureT-loop
-μ-loop program n count index₀ c₀ index c = count - c
+μ-loop file count index₀ c₀ index c = count - c
 
 loop-holds : tie.Need-loop-holds Inv-loop μ-loop
-loop-holds c = (search needs, constructed-first (search needs) (c .before .pre .1))
+loop-holds c = (search needs, constructed-first (search needs))
 
-mul-payload-byte : tie.Need-mul-payload-byte Inv-loop μ-loop
-mul-payload-byte c = omega (arith, c .before .before .before .pre .0 .few)
+constructor-offset-requires : tie.Need-constructor-offset-requires Inv-loop μ-loop
+constructor-offset-requires c κs = omega (arith, c .before .before .before .pre .few)
 
-add-payload-byte : tie.Need-add-payload-byte Inv-loop μ-loop
-add-payload-byte c = omega (arith, c .before .before .before .pre .0 .few)
-
-add-payload-byte-2 : tie.Need-add-payload-byte-2 Inv-loop μ-loop
-add-payload-byte-2 c = omega (arith, c .before .before .before .pre .0 .few)
-
-payload-byte-requires : tie.Need-payload-byte-requires Inv-loop μ-loop
-payload-byte-requires c κs = (c .before .before .before .pre .0 .opened, omega (arith, c .before .before .before .pre .0 .there (c .before .loop .c) (c .loop-test .taken)))
+arity-requires : tie.Need-arity-requires Inv-loop μ-loop
+arity-requires c κs =
+    let s = c .before .before .before .before in (
+      s .pre .verified,
+      omega (
+        arith,
+        c .constructor-offset .ensures,
+        s .pre .there (c .before .before .loop .c)
+            (c .before .loop-test .taken),
+      ),
+    )
 
 cast-index : tie.Need-cast-index Inv-loop μ-loop
 cast-index c = search needs
@@ -45,7 +50,14 @@ loop-less : tie.Need-loop-less Inv-loop μ-loop
 loop-less c = search needs
 
 loop-again : tie.Need-loop-again Inv-loop μ-loop
-loop-again c = (search needs, constructed-next (c .before .before .loop .inv .1) (omega (arith, c .before .before .before .before .pre .0 .few)) (c .payload-byte .ensures))
+loop-again c =
+    let at-constructor-offset = c .before in
+    let at-loop = at-constructor-offset .before .before in
+    let start = at-loop .before .before in (
+      search needs,
+      constructed-next (at-loop .loop .inv .1) (omega (arith, start .pre .few)) (c .arity .ensures
+          ∙ ap (λ (k : ℕ). byteAt (payload (start .args .file .now)) (k + 1)) (at-constructor-offset .constructor-offset .ensures)),
+    )
 
 returns : tie.Need-returns Inv-loop μ-loop
 returns c = constructed-end (c .before .loop .inv .1) (c .before .loop .inv .0) (search needs)
@@ -57,10 +69,8 @@ index-constructors-spec =
     Inv-loop
     μ-loop
     loop-holds
-    mul-payload-byte
-    add-payload-byte
-    add-payload-byte-2
-    payload-byte-requires
+    constructor-offset-requires
+    arity-requires
     cast-index
     mul-index
     array-write-index

@@ -3,17 +3,11 @@ use borrow.Author.Needs.{needs}
 use Rattle.machine.proofs.index.index_function.Statement.{statement}
 use Rattle.machine.proofs.index.index_function.Tie as tie
 
-add-code : tie.Need-add-code
-add-code c = search needs
-
 wide-requires : tie.Need-wide-requires
 wide-requires c κs = search needs
 
-mul-code : tie.Need-mul-code
-mul-code c = search needs
-
-add-code-2 : tie.Need-add-code-2
-add-code-2 c = search needs
+alternative-offset-requires : tie.Need-alternative-offset-requires
+alternative-offset-requires c κs = search needs
 
 cast-r : tie.Need-cast-r
 cast-r c = search needs
@@ -58,10 +52,8 @@ pub index-function-spec : {M : Type 1} → statement M
 index-function-spec =
     tie.close
     (tie.spec
-    add-code
     wide-requires
-    mul-code
-    add-code-2
+    alternative-offset-requires
     cast-r
     add-r
     mul-r

@@ -1,8 +1,7 @@
 -- `index_functions` meets its contract: at each turn the functions below `f` are indexed.
-use Prim.Native.Nat.{ℕ, _-_, _≤_, _<_}
+use Prim.Native.Nat.{_-_, _≤_, _<_}
 use native.Mathlib.Omega.{arith}
-use mathlib.Core.Path.{sym, refl}
-use native.Mathlib.Nat.{le-trans}
+use mathlib.Core.Path.{refl}
 use Rattle.rules.specs.Base.{byteAt}
 use Rattle.rules.specs.Container.{payload}
 use Rattle.program.proofs.LayoutLaws.{functions-few}
@@ -13,10 +12,10 @@ use Rattle.machine.proofs.index.index_functions.Statement.{statement}
 use Rattle.machine.proofs.index.index_functions.Tie as tie
 
 abbrev Inv-loop : tie.InvT-loop
-Inv-loop program n heads count index₀ f₀ index f = (f ≤ count) × Functioned program n (byteAt (payload program) 2) f index
+Inv-loop file heads count index₀ f₀ index f = (f ≤ count) × Functioned file (byteAt (payload file) 2) f index
 
 abbrev μ-loop : tie.MeasureT-loop
-μ-loop program n heads count index₀ f₀ index f = count - f
+μ-loop file heads count index₀ f₀ index f = count - f
 
 wide-requires : tie.Need-wide-requires Inv-loop μ-loop
 wide-requires c κs = search needs
@@ -25,19 +24,37 @@ loop-holds : tie.Need-loop-holds Inv-loop μ-loop
 loop-holds c = (search needs, functioned-first (c .before .before .pre .0) (c .before .before .pre .1))
 
 mul-at : tie.Need-mul-at Inv-loop μ-loop
-mul-at c = omega (arith, functions-few (c .before .before .before .before .pre .0), c .before .before .wide .ensures .0)
+mul-at c = omega (arith, functions-few (c .before .before .before .before .pre .0 .headed), c .before .before .wide .ensures .0)
 
 element-copy-out-at : tie.Need-element-copy-out-at Inv-loop μ-loop
-element-copy-out-at c = omega (arith, functions-few (c .before .before .before .before .pre .0), c .before .before .wide .ensures .0, c .loop-test .taken)
+element-copy-out-at c =
+    omega (
+      arith,
+      functions-few (c .before .before .before .before .pre .0 .headed),
+      c .before .before .wide .ensures .0,
+      c .loop-test .taken,
+    )
 
 head-requires : tie.Need-head-requires Inv-loop μ-loop
-head-requires c κs = (c .before .before .before .before .before .pre .0 .opened, head-there (c .before .before .before .before .before .pre .0) (c .before .before .loop .f) _ (omega (arith, c .before .loop-test .taken, c .before .before .before .wide .ensures .0)) refl)
+head-requires c κs =
+    let at-loop-test = c .before in
+    let at-loop = at-loop-test .before in
+    let at-wide = at-loop .before in
+    let start = at-wide .before .before in (
+      start .pre .0 .headed .parsed .verified,
+      head-there (start .pre .0) (at-loop .loop .f) _
+          (omega (arith, at-loop-test .loop-test .taken, at-wide .wide .ensures .0)) refl,
+    )
 
 index-function-requires : tie.Need-index-function-requires Inv-loop μ-loop
 index-function-requires c κs =
-    let o = c .before .before .before .before .before .before .pre .0 in
-    let lt : c .before .before .before .loop .f < c .before .before .before .before .before .before .args .header .functions = omega (arith, c .before .before .loop-test .taken, c .before .before .before .before .wide .ensures .0) in
-    (omega (arith, functions-few o), omega (arith, head-there o (c .before .before .before .loop .f) _ lt refl, o .opened .small))
+    let at-loop-test = c .before .before in
+    let at-loop = at-loop-test .before in
+    let at-wide = at-loop .before in
+    let start = at-wide .before .before in
+    let o = start .pre .0 in
+    let lt : at-loop .loop .f < start .args .header .functions = omega (arith, at-loop-test .loop-test .taken, at-wide .wide .ensures .0) in
+    (omega (arith, functions-few (o .headed)), omega (arith, head-there o (at-loop .loop .f) _ lt refl, o .headed .parsed .verified .small))
 
 add-f : tie.Need-add-f Inv-loop μ-loop
 add-f c = search needs
@@ -47,11 +64,21 @@ loop-less c = search needs
 
 loop-again : tie.Need-loop-again Inv-loop μ-loop
 loop-again c =
-    let lt : c .before .before .before .before .loop .f < c .before .before .before .before .before .before .before .args .header .functions = omega (arith, c .before .before .before .loop-test .taken, c .before .before .before .before .before .wide .ensures .0) in
-    (search needs, rw (c .index-function .ensures) (functioned-on (c .before .before .before .before .before .before .before .pre .0) (c .before .before .before .before .loop .inv .1) lt refl (c .before .head .ensures)))
+    let at-head = c .before in
+    let at-loop-test = at-head .before .before in
+    let at-loop = at-loop-test .before in
+    let at-wide = at-loop .before in
+    let start = at-wide .before .before in
+    let lt : at-loop .loop .f < start .args .header .functions = omega (arith, at-loop-test .loop-test .taken, at-wide .wide .ensures .0) in
+    (search needs, rw (c .index-function .ensures) (functioned-on (start .pre .0) (at-loop .loop .inv .1) lt refl (at-head .head .ensures)))
 
 returns : tie.Need-returns Inv-loop μ-loop
-returns c = functioned-end (c .before .before .before .before .pre .0) (c .before .loop .inv .1) (omega (arith, c .before .loop .inv .0, c .before .before .wide .ensures .0)) (omega (arith, c .loop-test .left, c .before .before .wide .ensures .0))
+returns c =
+    let at-loop = c .before in
+    let at-wide = at-loop .before in
+    let start = at-wide .before .before in
+    functioned-end (start .pre .0) (at-loop .loop .inv .1) (omega (arith, at-loop .loop .inv .0, at-wide .wide .ensures .0))
+    (omega (arith, c .loop-test .left, at-wide .wide .ensures .0))
 
 pub index-functions-spec : {M : Type 1} → statement M
 index-functions-spec =

@@ -7,24 +7,20 @@ use Rattle.machine.proofs.index.index_of.Tie as tie
 wide-requires : tie.Need-wide-requires
 wide-requires c κs = search needs
 
-blank-index-requires : tie.Need-blank-index-requires
-blank-index-requires c κs = search needs
-
 index-constructors-requires : tie.Need-index-constructors-requires
-index-constructors-requires c κs = (rw (c .before .wide .ensures .0) (constructing (c .before .before .before .pre)), c .blank-index .ensures .1)
+index-constructors-requires c κs = rw (c .wide .ensures .0) (constructing (c .before .before .pre))
 
 index-functions-requires : tie.Need-index-functions-requires
-index-functions-requires c κs = (c .before .before .before .before .pre, rw (c .before .before .wide .ensures .0) at (c .index-constructors .ensures))
+index-functions-requires c κs = (c .before .before .before .pre, rw (c .before .wide .ensures .0) at (c .index-constructors .ensures))
 
 returns : tie.Need-returns
-returns c = indexed (c .before .before .before .before .before .pre) (c .index-functions .ensures)
+returns c = indexed (c .before .before .before .before .pre) (c .index-functions .ensures)
 
 pub index-of-spec : {M : Type 1} → statement M
 index-of-spec =
     tie.close
     (tie.spec
     wide-requires
-    blank-index-requires
     index-constructors-requires
     index-functions-requires
     returns)

@@ -4,43 +4,65 @@ use native.Mathlib.Omega.{arith}
 use mathlib.Core.Path.{ap}
 use lib.ListN.{length}
 use Rattle.rules.specs.Container.{payload}
-use Rattle.rules.specs.Records.{argumentsOf, declarationAt}
+use Rattle.rules.specs.Records.{argumentsOf, declarationAt, programIn}
 use Rattle.rules.specs.declared.records.Declaration.{Declaration}
-use Rattle.machine.specs.Indexed.{held}
-use Rattle.machine.proofs.ReadingLaws.{reads, head-arity, Reading, parameters-put, reading-next, reading-stop, reading-short, reading-whole, arguments-long, arguments-read}
+use Rattle.machine.proofs.ReadingLaws.{head-arity, Reading, parameters-put, reading-next, reading-stop, reading-short, reading-whole}
+use Rattle.machine.proofs.ReadingLaws.{arguments-long, arguments-read}
 use borrow.Author.Needs.{needs}
 use Rattle.machine.proofs.reading.check_arguments.Statement.{statement}
 use Rattle.machine.proofs.reading.check_arguments.Tie as tie
 
 abbrev Inv-loop : tie.InvT-loop
-Inv-loop program index head bytes n types₀ at₀ i₀ types at i = Reading (held program) bytes (argumentsOf (declarationAt (payload program) head)) i types at × (i ≤ length bytes)
+Inv-loop file head bytes types₀ at₀ i₀ types at i =
+    Reading (programIn file) bytes (argumentsOf (declarationAt (payload file) head)) i types at × (i ≤ length bytes)
 
 abbrev μ-loop : tie.MeasureT-loop
-μ-loop program index head bytes n types₀ at₀ i₀ types at i = length bytes - i
+μ-loop file head bytes types₀ at₀ i₀ types at i = length bytes - i
 
 returns : tie.Need-returns Inv-loop μ-loop
 returns c = arguments-long _ _ _ _ (c .if1 .taken)
 
-element-copy-out-wide32 : tie.Need-element-copy-out-wide32 Inv-loop μ-loop
-element-copy-out-wide32 c = search needs
-
-wide32-requires : tie.Need-wide32-requires Inv-loop μ-loop
-wide32-requires c κs = search needs
-
 declaration-requires : tie.Need-declaration-requires Inv-loop μ-loop
-declaration-requires c κs = (reads _ _ (c .before .before .before .before .before .pre .0) _ (c .wide32 .ensures .0), omega (arith, c .wide32 .ensures .0, c .before .before .before .before .before .pre .0 .opened .long, c .before .before .before .before .before .pre .1 .whole))
+declaration-requires c κs =
+    let start = c .before .before .before in
+    (start .pre .0 .verified, omega (arith, start .pre .1 .whole))
 
 wide-requires : tie.Need-wide-requires Inv-loop μ-loop
 wide-requires c κs = search needs
 
 sub-at : tie.Need-sub-at Inv-loop μ-loop
-sub-at c = omega (arith, c .wide .ensures .0, head-arity _ (c .before .before .before .before .before .before .before .args .head) (c .before .before .before .before .before .before .before .pre .1) (c .before .declaration .result) (c .before .declaration .ensures))
+sub-at c =
+    let at-declaration = c .before in
+    let start = at-declaration .before .before .before .before in
+    omega (
+      arith,
+      c .wide .ensures .0,
+      head-arity _ (start .args .head) (start .pre .1) (at-declaration .declaration .result)
+          (at-declaration .declaration .ensures),
+    )
 
 put-types-requires : tie.Need-put-types-requires Inv-loop μ-loop
-put-types-requires c κs = let a = head-arity _ (c .before .before .before .before .before .before .before .before .args .head) (c .before .before .before .before .before .before .before .before .pre .1) (c .before .before .declaration .result) (c .before .before .declaration .ensures) in (a .1, ap (λ (d : Declaration). length (d .types)) (c .before .before .declaration .ensures), omega (arith, c .before .wide .ensures .0, a .1))
+put-types-requires c κs =
+    let at-wide = c .before in
+    let at-declaration = at-wide .before in
+    let start = at-declaration .before .before .before .before in
+    let d = at-declaration .declaration in
+    let a = head-arity _ (start .args .head) (start .pre .1) (d .result) (d .ensures) in (
+      a .1,
+      ap (λ (d : Declaration). length
+          (d .types)) (at-declaration .declaration .ensures),
+      omega (arith, at-wide .wide .ensures .0, a .1),
+    )
 
 loop-holds : tie.Need-loop-holds Inv-loop μ-loop
-loop-holds c = (parameters-put _ (c .before .before .before .before .before .before .before .before .before .args .head) (c .before .before .before .before .before .before .before .before .before .pre .1) (c .before .before .before .declaration .result) (c .before .before .before .declaration .ensures) _ _ (c .before .before .wide .result) (c .before .before .wide .ensures .0) _ _ (search needs) (c .put-types .ensures), search needs)
+loop-holds c =
+    let at-wide = c .before .before in
+    let at-declaration = at-wide .before in
+    let start = at-declaration .before .before .before .before in (
+      parameters-put _ (start .args .head) (start .pre .1) (at-declaration .declaration .result) (at-declaration .declaration .ensures) _ _
+          (at-wide .wide .result) (at-wide .wide .ensures .0) _ _ (search needs) (c .put-types .ensures),
+      search needs,
+    )
 
 shared-slice-read-wide : tie.Need-shared-slice-read-wide Inv-loop μ-loop
 shared-slice-read-wide c = search needs
@@ -49,7 +71,10 @@ wide-requires-2 : tie.Need-wide-requires-2 Inv-loop μ-loop
 wide-requires-2 c κs = search needs
 
 read-byte-requires : tie.Need-read-byte-requires Inv-loop μ-loop
-read-byte-requires c κs = (c .before .before .before .before .before .before .before .before .before .before .before .before .before .before .pre .0, (c .before .before .before .before .loop .inv .0 .low, c .before .before .before .before .loop .inv .0 .long))
+read-byte-requires c κs =
+    let at-loop = c .before .before .before .before in
+    let start = at-loop .before .before .before .before .before .before .before .before in
+    (start .pre .0, (at-loop .loop .inv .0 .low, at-loop .loop .inv .0 .long))
 
 enum-known-r : tie.Need-enum-known-r Inv-loop μ-loop
 enum-known-r c = search needs
@@ -58,7 +83,16 @@ enum-told : tie.Need-enum-told Inv-loop μ-loop
 enum-told c = search needs
 
 returns-2 : tie.Need-returns-2 Inv-loop μ-loop
-returns-2 c = arguments-read _ _ (c .before .before .before .before .before .before .before .before .before .before .before .before .before .before .before .before .before .args .head) _ (c .before .before .before .before .before .before .before .before .before .before .before .before .before .before .if1 .left) (reading-stop _ _ _ (c .before .before .before .before .before .before .before .loop .i) (c .before .before .before .before .before .before .before .loop .types) (c .before .before .before .before .before .before .before .loop .at) (c .before .before .before .before .before .before .before .loop .inv .0) (omega arith) _ (c .before .before .read-byte .result) (c .before .before .before .wide2 .result) (c .before .before .before .wide2 .ensures .0) (c .before .before .read-byte .ensures) (c .enum-told .given .1))
+returns-2 c =
+    let at-read-byte = c .before .before in
+    let at-wide2 = at-read-byte .before in
+    let at-loop = at-wide2 .before .before .before .before in
+    let at-if1 = at-loop .before .before .before .before .before in
+    let start = at-if1 .before .before .before in
+    arguments-read _ _ (start .args .head) _ (at-if1 .if1 .left)
+    (reading-stop _ _ _ (at-loop .loop .i) (at-loop .loop .types) (at-loop .loop .at) (at-loop .loop .inv .0) (omega arith) _
+    (at-read-byte .read-byte .result) (at-wide2 .wide2 .result) (at-wide2 .wide2 .ensures .0) (at-read-byte .read-byte .ensures)
+    (c .enum-told .given .1))
 
 add-i : tie.Need-add-i Inv-loop μ-loop
 add-i c = search needs
@@ -67,13 +101,34 @@ loop-less : tie.Need-loop-less Inv-loop μ-loop
 loop-less c = search needs
 
 loop-again : tie.Need-loop-again Inv-loop μ-loop
-loop-again c = (reading-next _ _ _ (c .before .before .before .before .before .before .before .before .loop .i) (c .before .before .before .before .before .before .before .before .loop .types) (c .before .before .before .before .before .before .before .before .loop .at) (c .before .before .before .before .before .before .before .before .loop .inv .0) (omega arith) _ (c .before .before .before .read-byte .result) (c .before .before .before .before .wide2 .result) (c .before .before .before .before .wide2 .ensures .0) (c .before .before .before .read-byte .ensures) _ (c .before .r .given .1), search needs)
+loop-again c =
+    let at-r = c .before in
+    let at-read-byte = at-r .before .before in
+    let at-wide2 = at-read-byte .before in
+    let at-loop = at-wide2 .before .before .before .before in (
+      reading-next _ _ _ (at-loop .loop .i) (at-loop .loop .types) (at-loop .loop .at) (at-loop .loop .inv .0)
+          (omega arith) _ (at-read-byte .read-byte .result) (at-wide2 .wide2 .result) (at-wide2 .wide2 .ensures .0)
+          (at-read-byte .read-byte .ensures) _ (at-r .r .given .1),
+      search needs,
+    )
 
 returns-3 : tie.Need-returns-3 Inv-loop μ-loop
-returns-3 c = arguments-read _ _ (c .before .before .before .before .before .before .before .before .before .before .before .before .args .head) _ (c .before .before .before .before .before .before .before .before .before .if1 .left) (reading-short _ _ _ (c .before .before .loop .i) (c .before .before .loop .types) (c .before .before .loop .at) (c .before .before .loop .inv .0) (omega arith) (c .if2 .taken))
+returns-3 c =
+    let at-loop = c .before .before in
+    let at-if1 = at-loop .before .before .before .before .before in
+    let start = at-if1 .before .before .before in
+    arguments-read _ _ (start .args .head) _ (at-if1 .if1 .left)
+    (reading-short _ _ _ (at-loop .loop .i) (at-loop .loop .types) (at-loop .loop .at) (at-loop .loop .inv .0) (omega arith)
+    (c .if2 .taken))
 
 returns-4 : tie.Need-returns-4 Inv-loop μ-loop
-returns-4 c = arguments-read _ _ (c .before .before .before .before .before .before .before .before .before .before .before .before .args .head) _ (c .before .before .before .before .before .before .before .before .before .if1 .left) (reading-whole _ _ _ (c .before .before .loop .i) (c .before .before .loop .types) (c .before .before .loop .at) (c .before .before .loop .inv .0) (omega arith) (c .if2 .left))
+returns-4 c =
+    let at-loop = c .before .before in
+    let at-if1 = at-loop .before .before .before .before .before in
+    let start = at-if1 .before .before .before in
+    arguments-read _ _ (start .args .head) _ (at-if1 .if1 .left)
+    (reading-whole _ _ _ (at-loop .loop .i) (at-loop .loop .types) (at-loop .loop .at) (at-loop .loop .inv .0) (omega arith)
+    (c .if2 .left))
 
 pub check-arguments-spec : {M : Type 1} → statement M
 check-arguments-spec =
@@ -82,8 +137,6 @@ check-arguments-spec =
     Inv-loop
     μ-loop
     returns
-    element-copy-out-wide32
-    wide32-requires
     declaration-requires
     wide-requires
     sub-at

@@ -22,13 +22,22 @@ loop-holds : tie.Need-loop-holds Inv-loop μ-loop
 loop-holds c = (search needs, c .before .before .pre .1, refl)
 
 array-read-types : tie.Need-array-read-types Inv-loop μ-loop
-array-read-types c = omega (arith, c .before .before .before .wide .ensures .0, c .before .before .before .before .pre .0)
+array-read-types c =
+    let at-wide = c .before .before .before in
+    let start = at-wide .before in
+    omega (arith, at-wide .wide .ensures .0, start .pre .0)
 
 add-types : tie.Need-add-types Inv-loop μ-loop
-add-types c = omega (arith, c .before .before .before .wide .ensures .0, c .before .before .before .before .pre .2)
+add-types c =
+    let at-wide = c .before .before .before in
+    let start = at-wide .before in
+    omega (arith, at-wide .wide .ensures .0, start .pre .2)
 
 element-write-types : tie.Need-element-write-types Inv-loop μ-loop
-element-write-types c = omega (arith, c .before .before .before .wide .ensures .0, c .before .before .before .before .pre .2)
+element-write-types c =
+    let at-wide = c .before .before .before in
+    let start = at-wide .before in
+    omega (arith, at-wide .wide .ensures .0, start .pre .2)
 
 add-j : tie.Need-add-j Inv-loop μ-loop
 add-j c = search needs
@@ -37,10 +46,23 @@ loop-less : tie.Need-loop-less Inv-loop μ-loop
 loop-less c = search needs
 
 loop-again : tie.Need-loop-again Inv-loop μ-loop
-loop-again c = (search needs, c .before .loop .inv .1, put-more _ _ (c .before .before .before .before .args .d .types) (c .before .loop .j) _ (omega (arith, c .before .before .before .wide .ensures .0, c .before .before .before .before .pre .0, c .before .loop .inv .1)) (c .before .loop .inv .2))
+loop-again c =
+    let at-loop = c .before in
+    let at-wide = at-loop .before .before in
+    let start = at-wide .before in (
+      search needs,
+      at-loop .loop .inv .1,
+      put-more _ _ (start .args .d .types) (at-loop .loop .j) _
+          (omega (arith, at-wide .wide .ensures .0, start .pre .0, at-loop .loop .inv .1)) (at-loop .loop .inv .2),
+    )
 
 returns : tie.Need-returns Inv-loop μ-loop
-returns c = let e : c .before .loop .j ≡ c .before .before .before .before .args .d .arity = omega (arith, c .before .loop .inv .0, c .before .before .before .wide .ensures .0) in c .before .loop .inv .2 ∙ ap (λ (k : ℕ). sets (c .before .before .before .before .args .types .now) (c .before .before .before .before .args .at) (take k (c .before .before .before .before .args .d .types))) e
+returns c =
+    let at-loop = c .before in
+    let at-wide = at-loop .before .before in
+    let start = at-wide .before in
+    let e : at-loop .loop .j ≡ start .args .d .arity = omega (arith, at-loop .loop .inv .0, at-wide .wide .ensures .0) in
+    at-loop .loop .inv .2 ∙ ap (λ (k : ℕ). sets (start .args .types .now) (start .args .at) (take k (start .args .d .types))) e
 
 pub put-types-spec : {M : Type 1} → statement M
 put-types-spec =

@@ -52,7 +52,9 @@ count-value-loop-holds : (t : ℕ) → count-value-lts.Need-loop-holds (
   count-value-below t,
   count-value.Post,
 ) (count-value-at t) count-value.Post count-value-Inv-loop count-value-μ-loop
-count-value-loop-holds t c = (search needs, omega (arith, length-all (c .before .before .args .index .now) (c .before .before .args .cells .now) (c .before .before .args .k) (c .before .before .pre .1 .0)))
+count-value-loop-holds t c =
+    let start = c .before .before in
+    (search needs, omega (arith, length-all (start .args .index .now) (start .args .cells .now) (start .args .k) (start .pre .1 .0)))
 
 count-value-argument-at-requires : (t : ℕ) → count-value-lts.Need-argument-at-requires (
   arity-at-reads.Asked,
@@ -73,12 +75,23 @@ count-value-count-value-requires : (t : ℕ) → count-value-lts.Need-count-valu
   count-value.Post,
 ) (count-value-at t) count-value.Post count-value-Inv-loop count-value-μ-loop
 count-value-count-value-requires t c κs =
-    let p = c .before .before .before .before .before .pre .1 in
-    let l = c .before .before .loop in
+    let at-loop = c .before .before in
+    let at-arity-at = at-loop .before in
+    let start = at-arity-at .before .before in
+    let p = start .pre .1 in
+    let l = at-loop .loop in
     let r = c .argument-at in
-    let h : l .j < getD (c .before .before .before .before .before .args .index .now) (con (c .before .before .before .before .before .args .cells .now) (c .before .before .before .before .before .args .k)) 0 = omega (arith, c .before .before .before .arity-at .ensures) in
-    let m = length-more (c .before .before .before .before .before .args .index .now) (c .before .before .before .before .before .args .cells .now) (c .before .before .before .before .before .args .k) (p .0) (l .j) (r .result) h (r .ensures .0) in
-    (omega (arith, c .before .before .before .before .before .pre .0, r .ensures .1), (readable-at (c .before .before .before .before .before .args .index .now) (c .before .before .before .before .before .args .cells .now) (c .before .before .before .before .before .args .k) (p .0) (r .result) (r .ensures .1), omega (arith, m, l .inv .1, p .1)))
+    let h : l .j < getD (start .args .index .now) (con (start .args .cells .now) (start .args .k)) 0 =
+    omega (arith, at-arity-at .arity-at .ensures) in
+    let x = start .args in
+    let m = length-more (x .index .now) (x .cells .now) (x .k) (p .0) (l .j) (r .result) h (r .ensures .0) in (
+      omega (arith, start .pre .0, r .ensures .1),
+      (
+        readable-at (start .args .index .now) (start .args .cells .now) (start .args .k) (p .0) (r .result) (r .ensures .1),
+        omega
+            (arith, m, l .inv .1, p .1),
+      ),
+    )
 
 count-value-add-total : (t : ℕ) → count-value-lts.Need-add-total (
   arity-at-reads.Asked,
@@ -89,11 +102,16 @@ count-value-add-total : (t : ℕ) → count-value-lts.Need-add-total (
   count-value.Post,
 ) (count-value-at t) count-value.Post count-value-Inv-loop count-value-μ-loop
 count-value-add-total t c =
-    let p = c .before .before .before .before .before .before .pre .1 in
-    let l = c .before .before .before .loop in
-    let r = c .before .argument-at in
-    let h : l .j < getD (c .before .before .before .before .before .before .args .index .now) (con (c .before .before .before .before .before .before .args .cells .now) (c .before .before .before .before .before .before .args .k)) 0 = omega (arith, c .before .before .before .before .arity-at .ensures) in
-    let m = length-more (c .before .before .before .before .before .before .args .index .now) (c .before .before .before .before .before .before .args .cells .now) (c .before .before .before .before .before .before .args .k) (p .0) (l .j) (r .result) h (r .ensures .0) in
+    let at-argument-at = c .before in
+    let at-loop = at-argument-at .before .before in
+    let at-arity-at = at-loop .before in
+    let start = at-arity-at .before .before in
+    let p = start .pre .1 in
+    let l = at-loop .loop in
+    let r = at-argument-at .argument-at in
+    let h : l .j < getD (start .args .index .now) (con (start .args .cells .now) (start .args .k)) 0 =
+    omega (arith, at-arity-at .arity-at .ensures) in
+    let m = length-more (start .args .index .now) (start .args .cells .now) (start .args .k) (p .0) (l .j) (r .result) h (r .ensures .0) in
     omega (arith, m, l .inv .1, p .1, c .count-value .ensures)
 
 count-value-add-j : (t : ℕ) → count-value-lts.Need-add-j (
@@ -125,11 +143,16 @@ count-value-loop-again : (t : ℕ) → count-value-lts.Need-loop-again (
   count-value.Post,
 ) (count-value-at t) count-value.Post count-value-Inv-loop count-value-μ-loop
 count-value-loop-again t c =
-    let p = c .before .before .before .before .before .before .pre .1 in
-    let l = c .before .before .before .loop in
-    let r = c .before .argument-at in
-    let h : l .j < getD (c .before .before .before .before .before .before .args .index .now) (con (c .before .before .before .before .before .before .args .cells .now) (c .before .before .before .before .before .before .args .k)) 0 = omega (arith, c .before .before .before .before .arity-at .ensures) in
-    let m = length-more (c .before .before .before .before .before .before .args .index .now) (c .before .before .before .before .before .before .args .cells .now) (c .before .before .before .before .before .before .args .k) (p .0) (l .j) (r .result) h (r .ensures .0) in
+    let at-argument-at = c .before in
+    let at-loop = at-argument-at .before .before in
+    let at-arity-at = at-loop .before in
+    let start = at-arity-at .before .before in
+    let p = start .pre .1 in
+    let l = at-loop .loop in
+    let r = at-argument-at .argument-at in
+    let h : l .j < getD (start .args .index .now) (con (start .args .cells .now) (start .args .k)) 0 =
+    omega (arith, at-arity-at .arity-at .ensures) in
+    let m = length-more (start .args .index .now) (start .args .cells .now) (start .args .k) (p .0) (l .j) (r .result) h (r .ensures .0) in
     (search needs, omega (arith, m, l .inv .1, c .count-value .ensures))
 
 count-value-returns : (t : ℕ) → count-value-lts.Need-returns (
@@ -141,7 +164,15 @@ count-value-returns : (t : ℕ) → count-value-lts.Need-returns (
   count-value.Post,
 ) (count-value-at t) count-value.Post count-value-Inv-loop count-value-μ-loop
 count-value-returns t c =
-    omega (arith, c .before .loop .inv .1, length-none (c .before .before .before .before .args .index .now) (c .before .before .before .before .args .cells .now) (c .before .before .before .before .args .k) (c .before .before .before .before .pre .1 .0) (c .before .loop .j) (omega (arith, c .before .before .arity-at .ensures)))
+    let at-loop = c .before in
+    let at-arity-at = at-loop .before in
+    let start = at-arity-at .before .before in
+    omega (
+      arith,
+      at-loop .loop .inv .1,
+      length-none (start .args .index .now) (start .args .cells .now) (start .args .k) (start .pre .1 .0)
+          (at-loop .loop .j) (omega (arith, at-arity-at .arity-at .ensures)),
+    )
 
 pub +count-value-spec : {M : Type 1} → statement M
 +count-value-spec = close μ-count-value λ t. count-value-lts.spec (

@@ -32,7 +32,9 @@ write-value-below t =
     and 3 write-value-kinds.ps (falls 3 write-value-kinds.ps _<_ μ-write-value t) write-value.Pre
 
 abbrev write-value-Inv-loop : write-value-lts.InvT-loop
-write-value-Inv-loop index cells out₀ k at n next₀ j₀ out next j = (j ≤ n) × (length out ≡ length out₀) × (next + length (rest index cells k j) ≡ at + length (bytesOf index cells k)) × (sets out₀ (at + 1) (rest index cells k 0) ≡ sets out next (rest index cells k j))
+write-value-Inv-loop index cells out₀ k at n next₀ j₀ out next j =
+    (j ≤ n) × (length out ≡ length out₀) × (next + length (rest index cells k j) ≡ at + length (bytesOf index cells k))
+    × (sets out₀ (at + 1) (rest index cells k 0) ≡ sets out next (rest index cells k j))
 
 abbrev write-value-μ-loop : write-value-lts.MeasureT-loop
 write-value-μ-loop index cells out₀ k at n next₀ j₀ out next j = n - j
@@ -48,8 +50,9 @@ write-value-put-constructor-requires : (t : ℕ) → write-value-lts.Need-put-co
   write-value.Post,
 ) (write-value-at t) write-value.Post write-value-Inv-loop write-value-μ-loop
 write-value-put-constructor-requires t c κs =
-    let p = c .before .before .before .pre .1 in
-    (p .0, omega (arith, p .1, length-all (c .before .before .before .args .index .now) (c .before .before .before .args .cells .now) (c .before .before .before .args .k) (p .0)))
+    let start = c .before .before .before in
+    let p = start .pre .1 in
+    (p .0, omega (arith, p .1, length-all (start .args .index .now) (start .args .cells .now) (start .args .k) (p .0)))
 
 write-value-arity-at-requires : (t : ℕ) → write-value-lts.Need-arity-at-requires (
   put-constructor-reads.Asked,
@@ -85,7 +88,13 @@ write-value-loop-holds : (t : ℕ) → write-value-lts.Need-loop-holds (
   write-value-below t,
   write-value.Post,
 ) (write-value-at t) write-value.Post write-value-Inv-loop write-value-μ-loop
-write-value-loop-holds t c = (search needs, refl, omega (arith, length-all (c .before .before .before .before .before .before .before .args .index .now) (c .before .before .before .before .before .before .before .args .cells .now) (c .before .before .before .before .before .before .before .args .k) (c .before .before .before .before .before .before .before .pre .1 .0)), refl)
+write-value-loop-holds t c =
+    let start = c .before .before .before .before .before .before .before in (
+      search needs,
+      refl,
+      omega (arith, length-all (start .args .index .now) (start .args .cells .now) (start .args .k) (start .pre .1 .0)),
+      refl,
+    )
 
 write-value-argument-at-requires : (t : ℕ) → write-value-lts.Need-argument-at-requires (
   put-constructor-reads.Asked,
@@ -110,12 +119,24 @@ write-value-write-value-requires : (t : ℕ) → write-value-lts.Need-write-valu
   write-value.Post,
 ) (write-value-at t) write-value.Post write-value-Inv-loop write-value-μ-loop
 write-value-write-value-requires t c κs =
-    let p = c .before .before .before .before .before .before .before .before .before .before .before .pre .1 in
-    let l = c .before .before .before .loop in
+    let at-loop = c .before .before .before in
+    let at-arity-at = at-loop .before in
+    let at-put-constructor = at-arity-at .before .before .before in
+    let start = at-put-constructor .before .before .before .before in
+    let p = start .pre .1 in
+    let l = at-loop .loop in
     let r = c .argument-at in
-    let h : l .j < getD (c .before .before .before .before .before .before .before .before .before .before .before .args .index .now) (con (c .before .before .before .before .before .before .before .before .before .before .before .args .cells .now) (c .before .before .before .before .before .before .before .before .before .before .before .args .k)) 0 = omega (arith, c .before .before .before .before .arity-at .ensures) in
-    let m = length-more (c .before .before .before .before .before .before .before .before .before .before .before .args .index .now) (c .before .before .before .before .before .before .before .before .before .before .before .args .cells .now) (c .before .before .before .before .before .before .before .before .before .before .before .args .k) (p .0) (l .j) (r .result) h (r .ensures .0) in
-    (omega (arith, c .before .before .before .before .before .before .before .before .before .before .before .pre .0, r .ensures .1), (readable-at (c .before .before .before .before .before .before .before .before .before .before .before .args .index .now) (c .before .before .before .before .before .before .before .before .before .before .before .args .cells .now) (c .before .before .before .before .before .before .before .before .before .before .before .args .k) (p .0) (r .result) (r .ensures .1), omega (arith, m, l .inv .1, l .inv .2, p .1, c .before .before .before .before .before .before .before .put-constructor .kept .1 .1 .0)))
+    let h : l .j < getD (start .args .index .now) (con (start .args .cells .now) (start .args .k)) 0 =
+    omega (arith, at-arity-at .arity-at .ensures) in
+    let x = start .args in
+    let m = length-more (x .index .now) (x .cells .now) (x .k) (p .0) (l .j) (r .result) h (r .ensures .0) in (
+      omega (arith, start .pre .0, r .ensures .1),
+      (
+        readable-at (start .args .index .now) (start .args .cells .now) (start .args .k) (p .0) (r .result) (r .ensures .1),
+        omega
+            (arith, m, l .inv .1, l .inv .2, p .1, at-put-constructor .put-constructor .kept .1 .1 .0),
+      ),
+    )
 
 write-value-add-j : (t : ℕ) → write-value-lts.Need-add-j (
   put-constructor-reads.Asked,
@@ -152,17 +173,26 @@ write-value-loop-again : (t : ℕ) → write-value-lts.Need-loop-again (
   write-value.Post,
 ) (write-value-at t) write-value.Post write-value-Inv-loop write-value-μ-loop
 write-value-loop-again t c =
-    let p = c .before .before .before .before .before .before .before .before .before .before .before .before .before .before .pre .1 in
-    let l = c .before .before .before .before .before .before .loop in
-    let r = c .before .before .before .argument-at in
-    let w = c .before .before .write-value in
-    let h : l .j < getD (c .before .before .before .before .before .before .before .before .before .before .before .before .before .before .args .index .now) (con (c .before .before .before .before .before .before .before .before .before .before .before .before .before .before .args .cells .now) (c .before .before .before .before .before .before .before .before .before .before .before .before .before .before .args .k)) 0 = omega (arith, c .before .before .before .before .before .before .before .arity-at .ensures) in
-    let m = length-more (c .before .before .before .before .before .before .before .before .before .before .before .before .before .before .args .index .now) (c .before .before .before .before .before .before .before .before .before .before .before .before .before .before .args .cells .now) (c .before .before .before .before .before .before .before .before .before .before .before .before .before .before .args .k) (p .0) (l .j) (r .result) h (r .ensures .0) in (
+    let at-write-value = c .before .before in
+    let at-argument-at = at-write-value .before in
+    let at-loop = at-argument-at .before .before .before in
+    let at-arity-at = at-loop .before in
+    let start = at-arity-at .before .before .before .before .before .before .before in
+    let p = start .pre .1 in
+    let l = at-loop .loop in
+    let r = at-argument-at .argument-at in
+    let w = at-write-value .write-value in
+    let h : l .j < getD (start .args .index .now) (con (start .args .cells .now) (start .args .k)) 0 =
+    omega (arith, at-arity-at .arity-at .ensures) in
+    let x = start .args in
+    let m = length-more (x .index .now) (x .cells .now) (x .k) (p .0) (l .j) (r .result) h (r .ensures .0) in (
       search needs,
       w .kept .1 .1 .0 ∙ l .inv .1,
       omega (arith, m, l .inv .2, w .ensures .0),
-      l .inv .3 ∙ sets-more (c .before .before .before .before .before .before .before .before .before .before .before .before .before .before .args .index .now) (c .before .before .before .before .before .before .before .before .before .before .before .before .before .before .args .cells .now) (c .before .before .before .before .before .before .before .before .before .before .before .before .before .before .args .k) (p .0) (l .j) (r .result) h (r .ensures .0) (l .out) (l .next)
-          ∙ ap₂ (λ (o : List ℕ) (i : ℕ). sets o i (rest (c .before .before .before .before .before .before .before .before .before .before .before .before .before .before .args .index .now) (c .before .before .before .before .before .before .before .before .before .before .before .before .before .before .args .cells .now) (c .before .before .before .before .before .before .before .before .before .before .before .before .before .before .args .k) (l .j + 1))) (sym (w .ensures .1)) (sym (w .ensures .0)),
+      l .inv .3 ∙ sets-more (start .args .index .now) (start .args .cells .now) (start .args .k) (p .0) (l .j) (r .result) h (r .ensures .0)
+          (l .out) (l .next)
+          ∙ ap₂ (λ (o : List ℕ) (i : ℕ). sets o i (rest (start .args .index .now) (start .args .cells .now) (start .args .k) (l .j + 1)))
+          (sym (w .ensures .1)) (sym (w .ensures .0)),
     )
 
 write-value-same-length : (t : ℕ) → write-value-lts.Need-same-length (
@@ -188,13 +218,20 @@ write-value-returns : (t : ℕ) → write-value-lts.Need-returns (
   write-value.Post,
 ) (write-value-at t) write-value.Post write-value-Inv-loop write-value-μ-loop
 write-value-returns t c =
-    let l = c .before .loop in
-    let p = c .before .before .before .before .before .before .before .before .before .pre .1 in
-    let z : getD (c .before .before .before .before .before .before .before .before .before .args .index .now) (con (c .before .before .before .before .before .before .before .before .before .args .cells .now) (c .before .before .before .before .before .before .before .before .before .args .k)) 0 ≤ l .j = omega (arith, c .before .before .arity-at .ensures) in (
-      omega (arith, l .inv .2, length-none (c .before .before .before .before .before .before .before .before .before .args .index .now) (c .before .before .before .before .before .before .before .before .before .args .cells .now) (c .before .before .before .before .before .before .before .before .before .args .k) (p .0) (l .j) z),
-      sym (sets-all (c .before .before .before .before .before .before .before .before .before .args .index .now) (c .before .before .before .before .before .before .before .before .before .args .cells .now) (c .before .before .before .before .before .before .before .before .before .args .k) (p .0) (c .before .before .before .before .before .before .before .before .before .args .out .now) (c .before .before .before .before .before .before .before .before .before .args .at)
-          ∙ ap (λ (o : List ℕ). sets o (c .before .before .before .before .before .before .before .before .before .args .at + 1) (rest (c .before .before .before .before .before .before .before .before .before .args .index .now) (c .before .before .before .before .before .before .before .before .before .args .cells .now) (c .before .before .before .before .before .before .before .before .before .args .k) 0)) (sym (c .before .before .before .before .before .put-constructor .ensures))
-          ∙ l .inv .3 ∙ ap (sets (l .out) (l .next)) (rest-none (c .before .before .before .before .before .before .before .before .before .args .index .now) (c .before .before .before .before .before .before .before .before .before .args .cells .now) (c .before .before .before .before .before .before .before .before .before .args .k) (p .0) (l .j) z)),
+    let at-loop = c .before in
+    let at-arity-at = at-loop .before in
+    let at-put-constructor = at-arity-at .before .before .before in
+    let start = at-put-constructor .before .before .before .before in
+    let l = at-loop .loop in
+    let p = start .pre .1 in
+    let z : getD (start .args .index .now) (con (start .args .cells .now) (start .args .k)) 0 ≤ l .j =
+    omega (arith, at-arity-at .arity-at .ensures) in (
+      omega (arith, l .inv .2, length-none (start .args .index .now) (start .args .cells .now) (start .args .k) (p .0) (l .j) z),
+      sym (sets-all (start .args .index .now) (start .args .cells .now) (start .args .k) (p .0) (start .args .out .now) (start .args .at)
+          ∙ ap (λ (o : List ℕ). sets o (start .args .at + 1) (rest (start .args .index .now) (start .args .cells .now) (start .args .k) 0))
+          (sym (at-put-constructor .put-constructor .ensures))
+          ∙ l .inv .3 ∙ ap (sets (l .out) (l .next))
+          (rest-none (start .args .index .now) (start .args .cells .now) (start .args .k) (p .0) (l .j) z)),
     )
 
 pub +write-value-spec : {M : Type 1} → statement M

@@ -23,13 +23,17 @@ mul-wide32 : tie.Need-mul-wide32
 mul-wide32 c = search needs
 
 element-copy-out-wide32 : tie.Need-element-copy-out-wide32
-element-copy-out-wide32 c = omega (arith, c .before .before .before .pre .known (c .before .before .before .args .k) (omega arith), c .wide16 .ensures .0)
+element-copy-out-wide32 c =
+    let start = c .before .before .before in
+    omega (arith, start .pre .known (start .args .k) (omega arith), c .wide16 .ensures .0)
 
 wide32-requires : tie.Need-wide32-requires
 wide32-requires c κs = search needs
 
 returns : tie.Need-returns
-returns c = c .wide32 .ensures .0 ∙ ap (λ (x : ℕ). getD (c .before .before .before .before .before .args .index .now) x 0) (c .before .before .wide16 .ensures .0)
+returns c =
+    c .wide32 .ensures .0 ∙ ap (λ (x : ℕ). getD (c .before .before .before .before .before .args .index .now) x 0)
+    (c .before .before .wide16 .ensures .0)
 
 pub arity-at-spec : {M : Type 1} → statement M
 arity-at-spec =

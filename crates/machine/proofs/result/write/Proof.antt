@@ -8,13 +8,27 @@ use Rattle.machine.proofs.result.write.Statement.{statement}
 use Rattle.machine.proofs.result.write.Tie as tie
 
 write-value-requires : tie.Need-write-value-requires
-write-value-requires c κs = (readable (c .before .before .before .before .args .program .now) _ _ (c .before .before .before .before .args .used) (c .before .before .before .before .args .k) (c .before .before .before .before .pre .0) (c .before .before .before .before .pre .1 .1), omega (arith, ap length (same-bytes (c .before .before .before .before .args .program .now) (c .before .before .before .before .args .index .now) (c .before .before .before .before .args .cells .now) (c .before .before .before .before .args .used) (c .before .before .before .before .args .k) (c .before .before .before .before .pre .0) (c .before .before .before .before .pre .1 .1)), c .before .before .before .before .pre .1 .0))
+write-value-requires c κs =
+    let start = c .before .before .before .before in (
+      readable (start .args .file .now) _ _ (start .args .used) (start .args .k) (start .pre .0) (start .pre .1 .1),
+      omega (
+        arith,
+        ap length (same-bytes (start .args .file .now) (start .args .index .now) (start .args .cells .now) (start .args .used)
+            (start .args .k) (start .pre .0) (start .pre .1 .1)),
+        start .pre .1 .0,
+      ),
+    )
 
 same-length : tie.Need-same-length
 same-length c = search needs
 
 returns : tie.Need-returns
-returns c = c .before .before .write-value .ensures .1 ∙ front-bytes (c .before .before .before .before .before .before .before .args .program .now) (c .before .before .before .before .before .before .before .args .index .now) (c .before .before .before .before .before .before .before .args .cells .now) (c .before .before .before .before .before .before .before .args .used) (c .before .before .before .before .before .before .before .args .k) (c .before .before .before .before .before .before .before .pre .0) (c .before .before .before .before .before .before .before .pre .1 .1) (c .before .before .before .before .before .before .before .args .out .now) (c .before .before .before .before .before .before .before .pre .1 .0)
+returns c =
+    let at-write-value = c .before .before in
+    let start = at-write-value .before .before .before .before .before in
+    at-write-value .write-value .ensures .1
+    ∙ front-bytes (start .args .file .now) (start .args .index .now) (start .args .cells .now) (start .args .used) (start .args .k)
+    (start .pre .0) (start .pre .1 .1) (start .args .out .now) (start .pre .1 .0)
 
 pub write-spec : {M : Type 1} → statement M
 write-spec = tie.close (tie.spec write-value-requires same-length returns)

@@ -18,7 +18,12 @@ wide-requires : tie.Need-wide-requires
 wide-requires c κs = search needs
 
 load-requires : tie.Need-load-requires
-load-requires c κs = let i = c .before .before .before .before .before .before .instruction .ensures in (c .before .before .before .before .before .before .before .before .before .before .pre .0, record { is = i .0 ∙ ap some (c .before .before .before .before .ins .given .1 ∙ ap Load (sym (c .wide .ensures .0))); small = i .1 })
+load-requires c κs =
+    let at-ins = c .before .before .before .before in
+    let at-instruction = at-ins .before .before in
+    let start = at-instruction .before .before .before .before in
+    let i = at-instruction .instruction .ensures in
+    (start .pre .0, record { is = i .0 ∙ ap some (at-ins .ins .given .1 ∙ ap Load (sym (c .wide .ensures .0))); small = i .1 })
 
 same-length : tie.Need-same-length
 same-length c = search needs
@@ -36,7 +41,20 @@ wide-requires-2 : tie.Need-wide-requires-2
 wide-requires-2 c κs = search needs
 
 build-requires : tie.Need-build-requires
-build-requires c κs = let i = c .before .before .before .before .before .before .instruction .ensures in (c .before .before .before .before .before .before .before .before .before .before .pre .0, (record { is = i .0 ∙ ap some (c .before .before .before .before .ins2 .given .1 ∙ ap Build (sym (c .wide2 .ensures .0))); small = i .1 }, c .before .before .before .before .before .before .before .before .before .before .pre .1))
+build-requires c κs =
+    let at-ins2 = c .before .before .before .before in
+    let at-instruction = at-ins2 .before .before in
+    let start = at-instruction .before .before .before .before in
+    let i = at-instruction .instruction .ensures in (
+      start .pre .0,
+      (
+        record {
+          is = i .0 ∙ ap some (at-ins2 .ins2 .given .1 ∙ ap Build (sym (c .wide2 .ensures .0)));
+          small = i .1;
+        },
+        start .pre .1,
+      ),
+    )
 
 same-length-3 : tie.Need-same-length-3
 same-length-3 c = search needs
@@ -54,7 +72,13 @@ wide-requires-3 : tie.Need-wide-requires-3
 wide-requires-3 c κs = search needs
 
 returns-3 : tie.Need-returns-3
-returns-3 c = (refl, refl, sym (current-at _ _) ∙ c .before .before .before .before .instruction .ensures .0 ∙ ap some (c .before .before .ins3 .given .1 ∙ ap Call (sym (c .wide3 .ensures .0))))
+returns-3 c = (
+  refl,
+  refl,
+  sym (current-at _
+      _) ∙ c .before .before .before .before .instruction .ensures .0 ∙ ap some (c .before .before .ins3 .given .1
+      ∙ ap Call (sym (c .wide3 .ensures .0))),
+)
 
 enum-known-ins-4 : tie.Need-enum-known-ins-4
 enum-known-ins-4 c = search needs
@@ -66,7 +90,21 @@ wide16-requires : tie.Need-wide16-requires
 wide16-requires c κs = search needs
 
 branch-requires : tie.Need-branch-requires
-branch-requires c κs = let i = c .before .before .before .before .before .before .before .instruction .ensures in (c .before .before .before .before .before .before .before .before .before .before .before .pre .0, (record { is = i .0 ∙ ap some (c .before .before .before .before .before .ins4 .given .1 ∙ ap₂ Branch (sym (c .before .wide4 .ensures .0)) (sym (c .wide16 .ensures .0))); small = i .1 }, c .before .before .before .before .before .before .before .before .before .before .before .pre .1))
+branch-requires c κs =
+    let at-wide4 = c .before in
+    let at-ins4 = at-wide4 .before .before .before .before in
+    let at-instruction = at-ins4 .before .before in
+    let start = at-instruction .before .before .before .before in
+    let i = at-instruction .instruction .ensures in (
+      start .pre .0,
+      (
+        record {
+          is = i .0 ∙ ap some (at-ins4 .ins4 .given .1 ∙ ap₂ Branch (sym (at-wide4 .wide4 .ensures .0)) (sym (c .wide16 .ensures .0)));
+          small = i .1;
+        },
+        start .pre .1,
+      ),
+    )
 
 same-length-5 : tie.Need-same-length-5
 same-length-5 c = search needs

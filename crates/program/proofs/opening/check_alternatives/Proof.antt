@@ -1,38 +1,40 @@
 -- `check_alternatives` meets its contract: at each turn what is left to check is the records from `k` on.
 use mathlib.Core.Path.{ap, _∙_}
-use Prim.Native.Nat.{_+_, _*_, _-_}
+use Prim.Native.Nat.{_-_}
 use native.Mathlib.Omega.{arith}
 use Rattle.rules.specs.Container.{payload}
 use Rattle.rules.specs.Records.{alternativeAt, alternativeRight, alternativeOffset, recordRight}
-use Rattle.program.proofs.PassLaws.{Passing, pass-first, pass-stop, pass-next, pass-end}
+use Rattle.rules.proofs.PassLaws.{Passing, pass-first, pass-stop, pass-next, pass-end}
 use Rattle.program.proofs.OpenLaws.{record-cut, record-bad, record-good}
 use borrow.Author.Needs.{needs}
 use Rattle.program.proofs.opening.check_alternatives.Statement.{statement}
 use Rattle.program.proofs.opening.check_alternatives.Tie as tie
 
 abbrev Inv-loop : tie.InvT-loop
-Inv-loop program n arity at count m k₀ k = Passing (λ j. recordRight 6 (payload program) (alternativeOffset at j) (alternativeRight arity (alternativeAt (payload program) (alternativeOffset at j)))) count k
+Inv-loop file n arity at count m k₀ k =
+    Passing (λ j. recordRight 6 (payload file) (alternativeOffset at j)
+    (alternativeRight arity (alternativeAt (payload file) (alternativeOffset at j)))) count k
 
 abbrev μ-loop : tie.MeasureT-loop
-μ-loop program n arity at count m k₀ k = m - k
+μ-loop file n arity at count m k₀ k = m - k
 
 loop-holds : tie.Need-loop-holds Inv-loop μ-loop
 loop-holds c = pass-first
 
-add-o : tie.Need-add-o Inv-loop μ-loop
-add-o c = search needs
-
-mul-o : tie.Need-mul-o Inv-loop μ-loop
-mul-o c = search needs
-
-add-o-2 : tie.Need-add-o-2 Inv-loop μ-loop
-add-o-2 c = search needs
+alternative-offset-requires : tie.Need-alternative-offset-requires Inv-loop μ-loop
+alternative-offset-requires c κs = search needs
 
 add-if1 : tie.Need-add-if1 Inv-loop μ-loop
 add-if1 c = search needs
 
 returns : tie.Need-returns Inv-loop μ-loop
-returns c = pass-stop (c .before .before .loop .inv) (c .before .loop-test .taken) (record-cut (c .before .before .before .before .pre .0) 6 (c .before .before .before .before .args .at + 10 + 6 * c .before .before .loop .k) _ (c .if1 .taken))
+returns c =
+    let at-offset = c .before in
+    let at-loop = at-offset .before .before in
+    let start = at-loop .before .before in
+    pass-stop (at-loop .loop .inv) (at-offset .before .loop-test .taken)
+    (record-cut (start .pre .0) 6 (λ x. alternativeRight (start .args .arity) (alternativeAt (payload (start .args .file .now)) x))
+    (at-offset .alternative-offset .ensures) (c .if1 .taken))
 
 alternative-requires : tie.Need-alternative-requires Inv-loop μ-loop
 alternative-requires c κs = search needs
@@ -41,7 +43,17 @@ alternative-right-requires : tie.Need-alternative-right-requires Inv-loop μ-loo
 alternative-right-requires c κs = search needs
 
 returns-2 : tie.Need-returns-2 Inv-loop μ-loop
-returns-2 c = pass-stop (c .before .before .before .before .before .loop .inv) (c .before .before .before .before .loop-test .taken) (record-bad (c .before .before .before .before .before .before .before .pre .0) 6 (c .before .before .before .before .before .before .before .args .at + 10 + 6 * c .before .before .before .before .before .loop .k) (omega (arith, c .before .before .before .if1 .left)) (c .before .alternative-right .ensures ∙ ap (alternativeRight (c .before .before .before .before .before .before .before .args .arity)) (c .before .before .alternative .ensures)) (c .if2 .taken))
+returns-2 c =
+    let at-test = c .before in
+    let at-read = at-test .before in
+    let at-if1 = at-read .before in
+    let at-offset = at-if1 .before in
+    let at-loop = at-offset .before .before in
+    let start = at-loop .before .before in
+    pass-stop (at-loop .loop .inv) (at-offset .before .loop-test .taken)
+    (record-bad (start .pre .0) 6 (λ x. alternativeRight (start .args .arity) (alternativeAt (payload (start .args .file .now)) x))
+    (at-offset .alternative-offset .ensures) (omega (arith, at-if1 .if1 .left))
+    (at-test .alternative-right .ensures ∙ ap (alternativeRight (start .args .arity)) (at-read .alternative .ensures)) (c .if2 .taken))
 
 add-k : tie.Need-add-k Inv-loop μ-loop
 add-k c = search needs
@@ -50,7 +62,17 @@ loop-less : tie.Need-loop-less Inv-loop μ-loop
 loop-less c = search needs
 
 loop-again : tie.Need-loop-again Inv-loop μ-loop
-loop-again c = pass-next (c .before .before .before .before .before .loop .inv) (c .before .before .before .before .loop-test .taken) (record-good (c .before .before .before .before .before .before .before .pre .0) 6 (c .before .before .before .before .before .before .before .args .at + 10 + 6 * c .before .before .before .before .before .loop .k) (omega (arith, c .before .before .before .if1 .left)) (c .before .alternative-right .ensures ∙ ap (alternativeRight (c .before .before .before .before .before .before .before .args .arity)) (c .before .before .alternative .ensures)) (c .if2 .left))
+loop-again c =
+    let at-test = c .before in
+    let at-read = at-test .before in
+    let at-if1 = at-read .before in
+    let at-offset = at-if1 .before in
+    let at-loop = at-offset .before .before in
+    let start = at-loop .before .before in
+    pass-next (at-loop .loop .inv) (at-offset .before .loop-test .taken)
+    (record-good (start .pre .0) 6 (λ x. alternativeRight (start .args .arity) (alternativeAt (payload (start .args .file .now)) x))
+    (at-offset .alternative-offset .ensures) (omega (arith, at-if1 .if1 .left))
+    (at-test .alternative-right .ensures ∙ ap (alternativeRight (start .args .arity)) (at-read .alternative .ensures)) (c .if2 .left))
 
 returns-3 : tie.Need-returns-3 Inv-loop μ-loop
 returns-3 c = pass-end (c .before .loop .inv) (c .loop-test .left)
@@ -62,9 +84,7 @@ check-alternatives-spec =
     Inv-loop
     μ-loop
     loop-holds
-    add-o
-    mul-o
-    add-o-2
+    alternative-offset-requires
     add-if1
     returns
     alternative-requires

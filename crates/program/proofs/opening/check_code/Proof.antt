@@ -1,36 +1,39 @@
 -- `check_code` meets its contract: at each turn what is left to check is the records from `k` on.
 use Rattle.rules.specs.declared.records.InstructionRecord.{InstructionRecord}
 use mathlib.Core.Path.{ap, _∙_}
-use Prim.Native.Nat.{_+_, _*_, _-_}
+use Prim.Native.Nat.{_-_}
 use native.Mathlib.Omega.{arith}
 use Rattle.rules.specs.Container.{payload}
-use Rattle.rules.specs.Records.{instructionCheck, operation, isSome}
-use Rattle.program.proofs.PassLaws.{Passing, pass-first, pass-stop, pass-next, pass-end}
+use Rattle.rules.specs.Records.{instructionAt, instructionCheck, operation, isSome}
+use Rattle.rules.proofs.PassLaws.{Passing, pass-first, pass-stop, pass-next, pass-end}
 use Rattle.program.proofs.OpenLaws.{record-cut, record-bad, record-good}
 use borrow.Author.Needs.{needs}
 use Rattle.program.proofs.opening.check_code.Statement.{statement}
 use Rattle.program.proofs.opening.check_code.Tie as tie
 
 abbrev Inv-loop : tie.InvT-loop
-Inv-loop program n base count m k₀ k = Passing (instructionCheck (payload program) base) count k
+Inv-loop file n base count m k₀ k = Passing (instructionCheck (payload file) base) count k
 
 abbrev μ-loop : tie.MeasureT-loop
-μ-loop program n base count m k₀ k = m - k
+μ-loop file n base count m k₀ k = m - k
 
 loop-holds : tie.Need-loop-holds Inv-loop μ-loop
 loop-holds c = pass-first
 
-mul-at : tie.Need-mul-at Inv-loop μ-loop
-mul-at c = search needs
-
-add-at : tie.Need-add-at Inv-loop μ-loop
-add-at c = search needs
+instruction-offset-requires : tie.Need-instruction-offset-requires Inv-loop μ-loop
+instruction-offset-requires c κs = search needs
 
 add-if1 : tie.Need-add-if1 Inv-loop μ-loop
 add-if1 c = search needs
 
 returns : tie.Need-returns Inv-loop μ-loop
-returns c = pass-stop (c .before .before .loop .inv) (c .before .loop-test .taken) (record-cut (c .before .before .before .before .pre .0) 4 (c .before .before .before .before .args .base + 4 * c .before .before .loop .k) _ (c .if1 .taken))
+returns c =
+    let at-offset = c .before in
+    let at-loop = at-offset .before .before in
+    let start = at-loop .before .before in
+    pass-stop (at-loop .loop .inv) (at-offset .before .loop-test .taken)
+    (record-cut (start .pre .0) 4 (λ x. isSome (operation (instructionAt (payload (start .args .file .now)) x)))
+    (at-offset .instruction-offset .ensures) (c .if1 .taken))
 
 instruction-record-requires : tie.Need-instruction-record-requires Inv-loop μ-loop
 instruction-record-requires c κs = search needs
@@ -39,7 +42,18 @@ instruction-right-requires : tie.Need-instruction-right-requires Inv-loop μ-loo
 instruction-right-requires c κs = search needs
 
 returns-2 : tie.Need-returns-2 Inv-loop μ-loop
-returns-2 c = pass-stop (c .before .before .before .before .before .loop .inv) (c .before .before .before .before .loop-test .taken) (record-bad (c .before .before .before .before .before .before .before .pre .0) 4 (c .before .before .before .before .before .before .before .args .base + 4 * c .before .before .before .before .before .loop .k) (omega (arith, c .before .before .before .if1 .left)) (c .before .instruction-right .ensures ∙ ap (λ (x : InstructionRecord). isSome (operation x)) (c .before .before .instruction-record .ensures)) (c .if2 .taken))
+returns-2 c =
+    let at-test = c .before in
+    let at-read = at-test .before in
+    let at-if1 = at-read .before in
+    let at-offset = at-if1 .before in
+    let at-loop = at-offset .before .before in
+    let start = at-loop .before .before in
+    pass-stop (at-loop .loop .inv) (at-offset .before .loop-test .taken)
+    (record-bad (start .pre .0) 4 (λ x. isSome (operation (instructionAt (payload (start .args .file .now)) x)))
+    (at-offset .instruction-offset .ensures) (omega (arith, at-if1 .if1 .left))
+    (at-test .instruction-right .ensures ∙ ap (λ (r : InstructionRecord). isSome (operation r)) (at-read .instruction-record .ensures))
+    (c .if2 .taken))
 
 add-k : tie.Need-add-k Inv-loop μ-loop
 add-k c = search needs
@@ -48,7 +62,18 @@ loop-less : tie.Need-loop-less Inv-loop μ-loop
 loop-less c = search needs
 
 loop-again : tie.Need-loop-again Inv-loop μ-loop
-loop-again c = pass-next (c .before .before .before .before .before .loop .inv) (c .before .before .before .before .loop-test .taken) (record-good (c .before .before .before .before .before .before .before .pre .0) 4 (c .before .before .before .before .before .before .before .args .base + 4 * c .before .before .before .before .before .loop .k) (omega (arith, c .before .before .before .if1 .left)) (c .before .instruction-right .ensures ∙ ap (λ (x : InstructionRecord). isSome (operation x)) (c .before .before .instruction-record .ensures)) (c .if2 .left))
+loop-again c =
+    let at-test = c .before in
+    let at-read = at-test .before in
+    let at-if1 = at-read .before in
+    let at-offset = at-if1 .before in
+    let at-loop = at-offset .before .before in
+    let start = at-loop .before .before in
+    pass-next (at-loop .loop .inv) (at-offset .before .loop-test .taken)
+    (record-good (start .pre .0) 4 (λ x. isSome (operation (instructionAt (payload (start .args .file .now)) x)))
+    (at-offset .instruction-offset .ensures) (omega (arith, at-if1 .if1 .left))
+    (at-test .instruction-right .ensures ∙ ap (λ (r : InstructionRecord). isSome (operation r)) (at-read .instruction-record .ensures))
+    (c .if2 .left))
 
 returns-3 : tie.Need-returns-3 Inv-loop μ-loop
 returns-3 c = pass-end (c .before .loop .inv) (c .loop-test .left)
@@ -60,8 +85,7 @@ check-code-spec =
     Inv-loop
     μ-loop
     loop-holds
-    mul-at
-    add-at
+    instruction-offset-requires
     add-if1
     returns
     instruction-record-requires

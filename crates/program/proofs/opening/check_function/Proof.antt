@@ -1,6 +1,7 @@
 -- `check_function` meets its contract: head, alternatives and code one after the other, each answer by what was checked before it.
+use Prim.Native.Nat.{_≤_}
 use native.Mathlib.Omega.{arith}
-use Rattle.program.proofs.PassLaws.{told-as}
+use Rattle.rules.proofs.PassLaws.{told-as}
 use Rattle.program.proofs.OpenLaws.{placed-cut, placed-bad, placed-alternatives, placed-code}
 use borrow.Author.Needs.{needs}
 use Rattle.program.proofs.opening.check_function.Statement.{statement}
@@ -13,7 +14,10 @@ misplaced-requires : tie.Need-misplaced-requires
 misplaced-requires c κs = search needs
 
 returns : tie.Need-returns
-returns c = placed-cut (c .before .before .before .pre .0) (c .before .before .before .args .at) (c .before .if1 .taken) (c .misplaced .ensures)
+returns c =
+    let at-if1 = c .before in
+    let start = at-if1 .before .before in
+    placed-cut (start .pre .0) (start .args .at) (at-if1 .if1 .taken) (c .misplaced .ensures)
 
 head-requires : tie.Need-head-requires
 head-requires c κs = search needs
@@ -25,7 +29,14 @@ misplaced-requires-2 : tie.Need-misplaced-requires-2
 misplaced-requires-2 c κs = search needs
 
 returns-2 : tie.Need-returns-2
-returns-2 c = placed-bad (c .before .before .before .before .before .before .pre .0) (c .before .before .before .before .before .before .args .at) (c .before .before .before .before .if1 .left) (c .before .before .before .head .ensures) (c .before .before .head-right .ensures) (c .before .if2 .taken) (c .misplaced2 .ensures)
+returns-2 c =
+    let at-if2 = c .before in
+    let at-head-right = at-if2 .before in
+    let at-head = at-head-right .before in
+    let at-if1 = at-head .before in
+    let start = at-if1 .before .before in
+    placed-bad (start .pre .0) (start .args .at) (at-if1 .if1 .left) (at-head .head .ensures) (at-head-right .head-right .ensures)
+    (at-if2 .if2 .taken) (c .misplaced2 .ensures)
 
 check-alternatives-requires : tie.Need-check-alternatives-requires
 check-alternatives-requires c κs = search needs
@@ -37,37 +48,54 @@ misplaced-requires-3 : tie.Need-misplaced-requires-3
 misplaced-requires-3 c κs = search needs
 
 returns-3 : tie.Need-returns-3
-returns-3 c = placed-alternatives (c .before .before .before .before .before .before .before .before .before .before .before .pre .0) (c .before .before .before .before .before .before .before .before .before .before .before .args .at) (c .before .before .before .before .before .before .before .before .before .if1 .left) (c .before .before .before .before .before .before .before .before .head .ensures) (c .before .before .before .before .before .before .before .head-right .ensures) (c .before .before .before .before .before .before .if2 .left) (told-as (c .before .before .before .before .check-alternatives .ensures) (c .before .before .alternatives .given .1)) (c .misplaced3 .ensures)
+returns-3 c =
+    let at-alternatives = c .before .before in
+    let at-check-alternatives = at-alternatives .before .before in
+    let at-if2 = at-check-alternatives .before .before in
+    let at-head-right = at-if2 .before in
+    let at-head = at-head-right .before in
+    let at-if1 = at-head .before in
+    let start = at-if1 .before .before in
+    placed-alternatives (start .pre .0) (start .args .at) (at-if1 .if1 .left) (at-head .head .ensures) (at-head-right .head-right .ensures)
+    (at-if2 .if2 .left) (told-as (at-check-alternatives .check-alternatives .ensures) (at-alternatives .alternatives .given .1))
+    (c .misplaced3 .ensures)
 
 enum-told : tie.Need-enum-told
 enum-told c = search needs
 
-add-base : tie.Need-add-base
-add-base c = search needs
+wide-requires : tie.Need-wide-requires
+wide-requires c κs = search needs
 
-cast-base : tie.Need-cast-base
-cast-base c = search needs
-
-mul-base : tie.Need-mul-base
-mul-base c = search needs
-
-add-base-2 : tie.Need-add-base-2
-add-base-2 c = search needs
+alternative-offset-requires : tie.Need-alternative-offset-requires
+alternative-offset-requires c κs = search needs
 
 check-code-requires : tie.Need-check-code-requires
 check-code-requires c κs = search needs
 
-cast-t11 : tie.Need-cast-t11
-cast-t11 c = search needs
+cast-instruction-offset : tie.Need-cast-instruction-offset
+cast-instruction-offset c = search needs
 
-mul-t17 : tie.Need-mul-t17
-mul-t17 c = search needs
-
-add-t16 : tie.Need-add-t16
-add-t16 c = search needs
+instruction-offset-requires : tie.Need-instruction-offset-requires
+instruction-offset-requires c κs = search needs
 
 returns-4 : tie.Need-returns-4
-returns-4 c = placed-code (c .before .before .before .before .before .before .before .before .before .before .before .pre .0) (c .before .before .before .before .before .before .before .before .before .before .before .args .at) (c .before .before .before .before .before .before .before .before .before .if1 .left) (c .before .before .before .before .before .before .before .before .head .ensures) (c .before .before .before .before .before .before .before .head-right .ensures) (c .before .before .before .before .before .before .if2 .left) (told-as (c .before .before .before .before .check-alternatives .ensures) (c .before .before .enum-told .given .1)) (c .check-code .ensures) (omega arith)
+returns-4 c =
+    let small : c .instruction-offset .result ≤ 400000 = omega arith in
+    let at-check-code = c .before in
+    let at-alternative-offset = at-check-code .before in
+    let at-wide = at-alternative-offset .before in
+    let at-enum-told = at-wide .before in
+    let at-check-alternatives = at-enum-told .before .before in
+    let at-if2 = at-check-alternatives .before .before in
+    let at-head-right = at-if2 .before in
+    let at-head = at-head-right .before in
+    let at-if1 = at-head .before in
+    let start = at-if1 .before .before in
+    placed-code (start .pre .0) (start .args .at) (at-if1 .if1 .left) (at-head .head .ensures) (at-head-right .head-right .ensures)
+    (at-if2 .if2 .left) (told-as (at-check-alternatives .check-alternatives .ensures) (at-enum-told .enum-told .given .1))
+    (at-wide .wide .ensures .0) (at-alternative-offset .alternative-offset .ensures) (c .instruction-offset .ensures)
+    (at-check-code .check-code .ensures)
+    small
 
 pub check-function-spec : {M : Type 1} → statement M
 check-function-spec =
@@ -85,12 +113,9 @@ check-function-spec =
     misplaced-requires-3
     returns-3
     enum-told
-    add-base
-    cast-base
-    mul-base
-    add-base-2
+    wide-requires
+    alternative-offset-requires
     check-code-requires
-    cast-t11
-    mul-t17
-    add-t16
+    cast-instruction-offset
+    instruction-offset-requires
     returns-4)

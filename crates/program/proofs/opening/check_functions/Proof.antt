@@ -8,10 +8,10 @@ use Rattle.program.proofs.opening.check_functions.Statement.{statement}
 use Rattle.program.proofs.opening.check_functions.Tie as tie
 
 abbrev Inv-loop : tie.InvT-loop
-Inv-loop program n first count m heads₀ at₀ g₀ heads at g = Scanned (payload program) count g at heads
+Inv-loop file n first count m heads₀ at₀ g₀ heads at g = Scanned (payload file) count g at heads
 
 abbrev μ-loop : tie.MeasureT-loop
-μ-loop program n first count m heads₀ at₀ g₀ heads at g = m - g
+μ-loop file n first count m heads₀ at₀ g₀ heads at g = m - g
 
 loop-holds : tie.Need-loop-holds Inv-loop μ-loop
 loop-holds c = scan-first (c .before .pre .2) (c .before .pre .1) refl
@@ -29,7 +29,13 @@ enum-known-checked : tie.Need-enum-known-checked Inv-loop μ-loop
 enum-known-checked c = search needs
 
 returns : tie.Need-returns Inv-loop μ-loop
-returns c = scan-stop (c .before .before .before .before .before .loop .inv) (c .before .before .before .before .loop-test .taken) (c .before .before .before .check-function .ensures) _ _ (c .before .checked .given .1)
+returns c =
+    let at-checked = c .before in
+    let at-check-function = at-checked .before .before in
+    let at-loop-test = at-check-function .before in
+    let at-loop = at-loop-test .before in
+    scan-stop (at-loop .loop .inv) (at-loop-test .loop-test .taken) (at-check-function .check-function .ensures) _ _
+    (at-checked .checked .given .1)
 
 enum-told : tie.Need-enum-told Inv-loop μ-loop
 enum-told c = search needs
@@ -41,7 +47,13 @@ loop-less : tie.Need-loop-less Inv-loop μ-loop
 loop-less c = search needs
 
 loop-again : tie.Need-loop-again Inv-loop μ-loop
-loop-again c = scan-next (c .before .before .before .before .loop .inv) (c .before .before .before .loop-test .taken) (c .before .before .check-function .ensures) (c .enum-told .given .1) (c .before .before .before .before .before .before .pre .3)
+loop-again c =
+    let at-check-function = c .before .before in
+    let at-loop-test = at-check-function .before in
+    let at-loop = at-loop-test .before in
+    let start = at-loop .before .before in
+    scan-next (at-loop .loop .inv) (at-loop-test .loop-test .taken) (at-check-function .check-function .ensures) (c .enum-told .given .1)
+    (start .pre .3)
 
 returns-2 : tie.Need-returns-2 Inv-loop μ-loop
 returns-2 c = scan-end (c .before .loop .inv) (c .loop-test .left)

@@ -1,6 +1,6 @@
 -- `report::line::put` meets its contract: the bytes passed are pasted. Assumes nothing.
 use Prim.Native.Nat.{_-_}
-use mathlib.Core.Path.{_≡_, refl}
+use mathlib.Core.Path.{refl}
 use native.Mathlib.Omega.{arith}
 use lib.ListN.{length}
 use Rattle.rules.proofs.WriteLaws.{Pasted, pasted-start, pasted-next, pasted-end}
@@ -44,4 +44,6 @@ returns : tie.Need-returns Inv-loop μ-loop
 returns c = let l = c .before .loop in (omega (arith, l .inv .within), pasted-end (l .inv) (c .loop-test .left))
 
 pub put-spec : {M : Type 1} → statement M
-put-spec = tie.close (tie.spec Inv-loop μ-loop loop-holds shared-slice-read-line add-line slice-write-line add-i loop-less loop-again add-result same-length returns)
+put-spec =
+    tie.close (tie.spec Inv-loop μ-loop loop-holds shared-slice-read-line add-line slice-write-line add-i loop-less loop-again add-result
+    same-length returns)

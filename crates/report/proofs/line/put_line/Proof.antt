@@ -29,12 +29,18 @@ same-length c = search needs
 
 returns : tie.Need-returns
 returns c =
-    let s = c .before .before .before .before .before .before .before .before .before .before .before .before .before .before .before .before .before .before .before .before .before .before .before in
-    let word = c .before .before .before .before .before .before .before .before .before .before .before .before .before .before .before .before .before .before .before .put .ensures in
-    let first = c .before .before .before .before .before .before .before .before .before .before .before .before .before .before .before .put-number .ensures in
-    let second = c .before .before .before .before .before .before .before .before .before .before .before .put-number2 .ensures in
-    let third = c .before .before .before .before .before .before .before .put-number3 .ensures in
-    let end = c .before .before .put2 .ensures in
+    let at-put2 = c .before .before in
+    let at-put-number3 = at-put2 .before .before .before .before .before in
+    let at-put-number2 = at-put-number3 .before .before .before .before in
+    let at-put-number = at-put-number2 .before .before .before .before in
+    let at-put = at-put-number .before .before .before .before in
+    let back = c .before .before .before .before .before .before .before .before .before .before .before in
+    let s = back .before .before .before .before .before .before .before .before .before .before .before .before in
+    let word = at-put .put .ensures in
+    let first = at-put-number .put-number .ensures in
+    let second = at-put-number2 .put-number2 .ensures in
+    let third = at-put-number3 .put-number3 .ensures in
+    let end = at-put2 .put2 .ensures in
     let f = front-first (s .args .word .now) (s .args .line .now) (word .0) (word .1) in
     let f₁ = front-next _ (spaced (s .args .first)) _ f (first .0 .0) (first .1) in
     let f₂ = front-next _ (spaced (s .args .second)) _ f₁ (second .0 .0) (second .1) in

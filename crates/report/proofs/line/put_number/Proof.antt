@@ -1,6 +1,6 @@
--- `report::line::put_number` meets its contract: a space, and behind it what the kit spells, which is the number in decimal. Assumes nothing.
+-- `report::line::put_number` meets its contract: a space, and behind it what the kit spells, which is the number in decimal. Assumes
+-- nothing.
 use native.Mathlib.Omega.{arith}
-use mathlib.Core.Path.{_≡_, refl}
 use Rattle.report.proofs.LineLaws.{few-digits, number-room, number-long, number-put}
 use borrow.Author.Needs.{needs}
 use Rattle.report.proofs.line.put_number.Statement.{statement}
@@ -23,21 +23,32 @@ slice-aggregate-put-2 c = search needs
 
 put-requires-2 : tie.Need-put-requires-2
 put-requires-2 c κs =
-    let spelt = c .before .before .before .before .before .before .before .decimal in
-    number-room (c .before .before .before .before .before .before .before .before .before .before .args .at) (c .before .before .before .before .put .ensures .0) (few-digits _ _ (spelt .ensures .1 .0) (omega (arith, (c .before .before .before .before .before .before .before .before .before .before .fits .n)))) (spelt .ensures .0 .1) (c .before .before .before .before .before .before .before .before .before .before .pre) (search needs)
+    let at-put = c .before .before .before .before in
+    let at-decimal = at-put .before .before .before in
+    let start = at-decimal .before .before .before in
+    let spelt = at-decimal .decimal in
+    number-room (start .args .at) (at-put .put .ensures .0) (few-digits _ _ (spelt .ensures .1 .0) (omega (arith, (start .fits .n))))
+    (spelt .ensures .0 .1) (start .pre) (search needs)
 
 same-length : tie.Need-same-length
 same-length c = search needs
 
 returns : tie.Need-returns
 returns c =
+    let at-put2 = c .before .before in
+    let at-put = at-put2 .before .before .before .before .before in
+    let at-decimal = at-put .before .before .before in
     let s = c .before .before .before .before .before .before .before .before .before .before .before .before .before in
-    let spelt = c .before .before .before .before .before .before .before .before .before .before .decimal in
-    let first = c .before .before .before .before .before .before .before .put in
-    let second = c .before .before .put2 in
+    let spelt = at-decimal .decimal in
+    let first = at-put .put in
+    let second = at-put2 .put2 in
     let few = few-digits _ _ (spelt .ensures .1 .0) (omega (arith, s .fits .n)) in
-    let e = number-put _ (s .args .at) (s .args .n) (spelt .result) (spelt .ensures .1 .0) few (spelt .ensures .1 .1) (s .pre) (first .ensures .0) (first .ensures .1) (second .ensures .1) in
-    (number-long (s .args .at) (s .args .n) (spelt .result) (spelt .ensures .1 .0) few (spelt .ensures .0 .1) (spelt .ensures .1 .1) (first .ensures .0) (second .ensures .0), e)
+    let e = number-put _ (s .args .at) (s .args .n) (spelt .result) (spelt .ensures .1 .0) few (spelt .ensures .1 .1) (s .pre)
+    (first .ensures .0) (first .ensures .1) (second .ensures .1) in (
+      number-long (s .args .at) (s .args .n) (spelt .result) (spelt .ensures .1 .0) few (spelt .ensures .0 .1) (spelt .ensures .1 .1)
+          (first .ensures .0) (second .ensures .0),
+      e,
+    )
 
 pub put-number-spec : {M : Type 1} → statement M
 put-number-spec =

@@ -42,12 +42,17 @@ put-line-requires-2 c κs = search needs
 returns : tie.Need-returns
 returns c =
     let s = c .before .before .before .before .before .before .before .before .before in
-    counts-front (verdictLine (told (s .args .verdict))) (s .args .line .now) (rw (c .before .before .before .before .before .before .before .verdict .given .1) (c .put-line .ensures))
+    counts-front (verdictLine (told (s .args .verdict))) (s .args .line .now)
+    (rw (c .before .before .before .before .before .before .before .verdict .given .1) (c .put-line .ensures))
 
 returns-2 : tie.Need-returns-2
 returns-2 c =
+    let at-numbers-of = c .before .before .before .before in
+    let at-verdict2 = at-numbers-of .before .before in
     let s = c .before .before .before .before .before .before .before .before in
-    counts-front (verdictLine (told (s .args .verdict))) (s .args .line .now) (refused-line _ (c .before .before .before .before .numbers-of .result) (s .args .line .now) (c .before .before .before .before .before .before .verdict2 .given .1) (c .before .before .before .before .numbers-of .ensures) (c .put-line2 .ensures))
+    counts-front (verdictLine (told (s .args .verdict))) (s .args .line .now)
+    (refused-line _ (at-numbers-of .numbers-of .result) (s .args .line .now) (at-verdict2 .verdict2 .given .1)
+    (at-numbers-of .numbers-of .ensures) (c .put-line2 .ensures))
 
 pub write-verdict-spec : {M : Type 1} → statement M
 write-verdict-spec =

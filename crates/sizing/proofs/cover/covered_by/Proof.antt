@@ -45,12 +45,16 @@ some-matches-requires c κs =
 
 returns : tie.Need-returns Inv-loop μ-loop
 returns c =
-    let l = c .before .before .before .before .loop in
+    let at-some-matches = c .before in
+    let at-loop-test = at-some-matches .before .before in
+    let at-loop = at-loop-test .before in
+    let l = at-loop .loop in
     let s = c .before .before .before .before .before in
-    let h = c .before .before .before .loop-test .taken in
+    let h = at-loop-test .loop-test .taken in
     let f = form-length (s .args .t2) (s .pre .1) in
     sym (l .inv .1 ∙ all-stop (in-bound (s .args .bound)) noAlternative (formIn (s .args .t2)) (l .i) (omega arith)
-    (ap (in-bound (s .args .bound)) (form-at (s .args .t2) (s .pre .1) (l .i) h) ∙ sym (c .before .some-matches .ensures) ∙ not-true _ (c .if1 .taken)))
+    (ap (in-bound (s .args .bound)) (form-at (s .args .t2) (s .pre .1) (l .i) h) ∙ sym (at-some-matches .some-matches .ensures)
+    ∙ not-true _ (c .if1 .taken)))
 
 add-i : tie.Need-add-i Inv-loop μ-loop
 add-i c = search needs
@@ -60,13 +64,17 @@ loop-less c = search needs
 
 loop-again : tie.Need-loop-again Inv-loop μ-loop
 loop-again c =
-    let l = c .before .before .before .before .loop in
+    let at-some-matches = c .before in
+    let at-loop-test = at-some-matches .before .before in
+    let at-loop = at-loop-test .before in
+    let l = at-loop .loop in
     let s = c .before .before .before .before .before in
-    let h = c .before .before .before .loop-test .taken in
+    let h = at-loop-test .loop-test .taken in
     let f = form-length (s .args .t2) (s .pre .1) in (
       search needs,
       l .inv .1 ∙ all-next (in-bound (s .args .bound)) noAlternative (formIn (s .args .t2)) (l .i) (omega arith)
-          (ap (in-bound (s .args .bound)) (form-at (s .args .t2) (s .pre .1) (l .i) h) ∙ sym (c .before .some-matches .ensures) ∙ not-false _ (c .if1 .left)),
+          (ap (in-bound (s .args .bound)) (form-at (s .args .t2) (s .pre .1) (l .i) h) ∙ sym (at-some-matches .some-matches .ensures)
+          ∙ not-false _ (c .if1 .left)),
     )
 
 returns-2 : tie.Need-returns-2 Inv-loop μ-loop

@@ -52,8 +52,11 @@ loop-again c =
     let l = c .before .before .before .before .loop in
     let s = c .before .before .before .before .before .before in
     let pa = s .pre .0 in
-    let pb = s .pre .1 in
-    (search needs, l .inv .1 ∙ atMost-next (s .args .t1 .coefficients) (s .args .t2 .coefficients) (l .i) (omega arith) (omega arith) (c .if2 .left))
+    let pb = s .pre .1 in (
+      search needs,
+      l .inv .1 ∙ atMost-next (s .args .t1 .coefficients) (s .args .t2 .coefficients) (l .i) (omega arith)
+          (omega arith) (c .if2 .left),
+    )
 
 returns-3 : tie.Need-returns-3 Inv-loop μ-loop
 returns-3 c =

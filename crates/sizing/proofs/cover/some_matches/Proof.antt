@@ -36,12 +36,15 @@ matched-by-requires c κs =
 
 returns : tie.Need-returns Inv-loop μ-loop
 returns c =
-    let l = c .before .before .before .before .loop in
+    let at-matched-by = c .before in
+    let at-loop-test = at-matched-by .before .before in
+    let at-loop = at-loop-test .before in
+    let l = at-loop .loop in
     let s = c .before .before .before .before .before in
-    let h = c .before .before .before .loop-test .taken in
+    let h = at-loop-test .loop-test .taken in
     let f = form-length (s .args .t1) (s .pre .0) in
     sym (l .inv .1 ∙ any-stop (matches (s .args .a)) noAlternative (formIn (s .args .t1)) (l .i) (omega arith)
-    (ap (matches (s .args .a)) (form-at (s .args .t1) (s .pre .0) (l .i) h) ∙ sym (c .before .matched-by .ensures) ∙ c .if1 .taken))
+    (ap (matches (s .args .a)) (form-at (s .args .t1) (s .pre .0) (l .i) h) ∙ sym (at-matched-by .matched-by .ensures) ∙ c .if1 .taken))
 
 add-i : tie.Need-add-i Inv-loop μ-loop
 add-i c = search needs
@@ -51,13 +54,17 @@ loop-less c = search needs
 
 loop-again : tie.Need-loop-again Inv-loop μ-loop
 loop-again c =
-    let l = c .before .before .before .before .loop in
+    let at-matched-by = c .before in
+    let at-loop-test = at-matched-by .before .before in
+    let at-loop = at-loop-test .before in
+    let l = at-loop .loop in
     let s = c .before .before .before .before .before in
-    let h = c .before .before .before .loop-test .taken in
+    let h = at-loop-test .loop-test .taken in
     let f = form-length (s .args .t1) (s .pre .0) in (
       search needs,
       l .inv .1 ∙ any-next (matches (s .args .a)) noAlternative (formIn (s .args .t1)) (l .i) (omega arith)
-          (ap (matches (s .args .a)) (form-at (s .args .t1) (s .pre .0) (l .i) h) ∙ sym (c .before .matched-by .ensures) ∙ c .if1 .left),
+          (ap (matches (s .args .a)) (form-at (s .args .t1) (s .pre .0) (l .i) h) ∙ sym (at-matched-by .matched-by .ensures)
+          ∙ c .if1 .left),
     )
 
 returns-2 : tie.Need-returns-2 Inv-loop μ-loop

@@ -25,15 +25,19 @@ substitute-requires c κs =
 returns : tie.Need-returns Inv-loop μ-loop
 returns c =
     let s = c .before .before .before in
-    only-row (s .args .n) (s .args .t1) (argumentsIn (s .args .arguments) (s .args .n)) (s .pre .0) (c .before .before .if1 .taken) (c .substitute .result) (c .substitute .ensures)
+    only-row (s .args .n) (s .args .t1) (argumentsIn (s .args .arguments) (s .args .n)) (s .pre .0) (c .before .before .if1 .taken)
+    (c .substitute .result) (c .substitute .ensures)
 
 no-form-requires : tie.Need-no-form-requires Inv-loop μ-loop
 no-form-requires c κs = search needs
 
 loop-holds : tie.Need-loop-holds Inv-loop μ-loop
 loop-holds c =
-    let s = c .before .before in
-    (search needs, joining-start (s .args .n) (s .args .t1) (argumentsIn (s .args .arguments) (s .args .n)) (s .pre .0) (c .no-form .result) (c .no-form .ensures .0) (c .no-form .ensures .1))
+    let s = c .before .before in (
+      search needs,
+      joining-start (s .args .n) (s .args .t1) (argumentsIn (s .args .arguments)
+          (s .args .n)) (s .pre .0) (c .no-form .result) (c .no-form .ensures .0) (c .no-form .ensures .1),
+    )
 
 mul-row : tie.Need-mul-row Inv-loop μ-loop
 mul-row c = search needs
@@ -48,11 +52,16 @@ substitute-requires-2 c κs =
 
 returns-2 : tie.Need-returns-2 Inv-loop μ-loop
 returns-2 c =
+    let at-substitute2 = c .before in
+    let at-loop-test = at-substitute2 .before .before in
+    let at-loop = at-loop-test .before in
     let s = c .before .before .before .before .before .before .before in
-    let l = c .before .before .before .before .loop in
+    let l = at-loop .loop in
     let z = c .if2 .taken in
     record {
-      many = joining-many (s .args .n) (s .args .t1) (argumentsIn (s .args .arguments) (s .args .n)) (s .pre .0) (l .i) (c .before .before .before .loop-test .taken) (l .x) (c .before .substitute2 .result) (l .inv .1) (c .before .substitute2 .ensures);
+      many =
+          joining-many (s .args .n) (s .args .t1) (argumentsIn (s .args .arguments) (s .args .n)) (s .pre .0) (l .i)
+          (at-loop-test .loop-test .taken) (l .x) (at-substitute2 .substitute2 .result) (l .inv .1) (at-substitute2 .substitute2 .ensures);
       right = λ g. absurd (omega arith);
     }
 
@@ -69,19 +78,30 @@ no-form-requires-2 c κs = search needs
 
 returns-3 : tie.Need-returns-3 Inv-loop μ-loop
 returns-3 c =
+    let at-if3 = c .before in
+    let at-if2 = at-if3 .before in
+    let at-substitute2 = at-if2 .before in
+    let at-loop-test = at-substitute2 .before .before in
+    let at-loop = at-loop-test .before in
     let s = c .before .before .before .before .before .before .before .before .before in
-    let l = c .before .before .before .before .before .before .loop in
+    let l = at-loop .loop in
     let z = c .no-form2 .ensures .1 in
     record {
-      many = λ g. joining-over (s .args .n) (s .args .t1) (argumentsIn (s .args .arguments) (s .args .n)) (s .pre .0) (l .i) (c .before .before .before .before .before .loop-test .taken) (l .x) (c .before .before .before .substitute2 .result) (l .inv .1) (c .before .before .before .substitute2 .ensures) (c .before .before .if2 .left) (c .before .if3 .taken);
+      many =
+          λ g. joining-over (s .args .n) (s .args .t1) (argumentsIn (s .args .arguments) (s .args .n)) (s .pre .0) (l .i)
+          (at-loop-test .loop-test .taken) (l .x) (at-substitute2 .substitute2 .result) (l .inv .1) (at-substitute2 .substitute2 .ensures)
+          (at-if2 .if2 .left) (at-if3 .if3 .taken);
       right = λ g. absurd (omega arith);
     }
 
 joined-requires : tie.Need-joined-requires Inv-loop μ-loop
 joined-requires c κs =
-    let l = c .before .before .before .before .before .loop in
-    let y = c .before .before .substitute2 .ensures in
-    let z : 0 < c .before .before .substitute2 .result .count = omega (arith, c .before .if2 .left) in
+    let at-if2 = c .before in
+    let at-substitute2 = at-if2 .before in
+    let at-loop = at-substitute2 .before .before .before in
+    let l = at-loop .loop in
+    let y = at-substitute2 .substitute2 .ensures in
+    let z : 0 < at-substitute2 .substitute2 .result .count = omega (arith, at-if2 .if2 .left) in
     (l .inv .1 .right, y .right z .0, c .if3 .left)
 
 add-i : tie.Need-add-i Inv-loop μ-loop
@@ -92,18 +112,25 @@ loop-less c = search needs
 
 loop-again : tie.Need-loop-again Inv-loop μ-loop
 loop-again c =
+    let at-if2 = c .before .before in
+    let at-substitute2 = at-if2 .before in
+    let at-loop-test = at-substitute2 .before .before in
+    let at-loop = at-loop-test .before in
     let s = c .before .before .before .before .before .before .before .before .before in
-    let l = c .before .before .before .before .before .before .loop in
+    let l = at-loop .loop in
     let e = c .joined .ensures in (
       search needs,
-      joining-next (s .args .n) (s .args .t1) (argumentsIn (s .args .arguments) (s .args .n)) (s .pre .0) (l .i) (c .before .before .before .before .before .loop-test .taken) (l .x) (c .before .before .before .substitute2 .result) (l .inv .1) (c .before .before .before .substitute2 .ensures) (c .joined .result) (c .before .before .if2 .left) (e .0) (e .1) (e .2),
+      joining-next (s .args .n) (s .args .t1) (argumentsIn (s .args .arguments) (s .args .n)) (s .pre .0) (l .i)
+          (at-loop-test .loop-test .taken) (l .x) (at-substitute2 .substitute2 .result) (l .inv .1) (at-substitute2 .substitute2 .ensures)
+          (c .joined .result) (at-if2 .if2 .left) (e .0) (e .1) (e .2),
     )
 
 returns-4 : tie.Need-returns-4 Inv-loop μ-loop
 returns-4 c =
     let s = c .before .before .before .before in
     let l = c .before .loop in
-    joining-end (s .args .n) (s .args .t1) (argumentsIn (s .args .arguments) (s .args .n)) (s .pre .0) (l .i) (l .x) (omega arith) (l .inv .1)
+    joining-end (s .args .n) (s .args .t1) (argumentsIn (s .args .arguments) (s .args .n)) (s .pre .0) (l .i) (l .x) (omega arith)
+    (l .inv .1)
 
 pub into-bound-spec : {M : Type 1} → statement M
 into-bound-spec =

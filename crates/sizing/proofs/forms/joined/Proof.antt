@@ -54,7 +54,8 @@ loop-again c =
     let f = s .pre .1 .few in (
       search needs,
       length-set (l .x .alternatives) (s .args .r .count + l .i) (getD (s .args .t2 .alternatives) (l .i) noAlternative) ∙ l .inv .1,
-      join-next (l .x .alternatives) (s .args .t2 .alternatives) (formIn (s .args .r)) (s .args .r .count) (l .i) (omega arith) (omega arith) (l .inv .2),
+      join-next (l .x .alternatives) (s .args .t2 .alternatives) (formIn (s .args .r)) (s .args .r .count) (l .i) (omega arith)
+          (omega arith) (l .inv .2),
     )
 
 add-x : tie.Need-add-x Inv-loop μ-loop

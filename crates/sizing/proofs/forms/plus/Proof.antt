@@ -22,7 +22,9 @@ abbrev μ-loop : tie.MeasureT-loop
 μ-loop m b a r₀ i₀ r i = 16 - i
 
 loop-holds : tie.Need-loop-holds Inv-loop μ-loop
-loop-holds c = let s = c in (search needs, record { wide = s .pre .2 .0; done = λ k l. absurd (omega arith); left = λ k l. refl; constant = refl })
+loop-holds c =
+    let s = c in
+    (search needs, record { wide = s .pre .2 .0; done = λ k l. absurd (omega arith); left = λ k l. refl; constant = refl })
 
 mul-r : tie.Need-mul-r Inv-loop μ-loop
 mul-r c = search needs

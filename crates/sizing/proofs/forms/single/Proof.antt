@@ -1,7 +1,6 @@
 -- The one alternative stands first.
 use mathlib.Core.Path.{_≡_, refl, _∙_}
 use mathlib.Core.List.{[], _∷_}
-use Prim.Native.Nat.{_-_}
 use native.Mathlib.Omega.{arith}
 use lib.ListN.{set, take, length-set}
 use Rattle.rules.specs.Lists.{l[], _l∷_}
@@ -21,9 +20,11 @@ returns c =
     let z = c .no-form .ensures .0 in
     let l = z .long in
     let a = c .before .args .a in
-    let e : take 1 (set (c .no-form .result .alternatives) 0 a) ≡ a ∷ [] = take-stored (c .no-form .result .alternatives) [] 0 a (omega arith) refl in
+    let e : take 1 (set (c .no-form .result .alternatives) 0 a) ≡ a ∷ [] =
+    take-stored (c .no-form .result .alternatives) [] 0 a (omega arith) refl in
     record {
-      right = record { few = omega arith; long = length-set (c .no-form .result .alternatives) 0 a ∙ l; wide = rw e (c .before .pre l∷ l[]) };
+      right =
+          record { few = omega arith; long = length-set (c .no-form .result .alternatives) 0 a ∙ l; wide = rw e (c .before .pre l∷ l[]) };
       one = refl;
       same = e;
     }

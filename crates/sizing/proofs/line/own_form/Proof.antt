@@ -1,7 +1,7 @@
 -- The first i rows are done.
 use mathlib.Core.Path.{_≡_, refl, sym, ap, _∙_}
 use mathlib.Core.List.{[], _∷_, _++_, map}
-use Prim.Native.Nat.{_≤_, _+_, _-_}
+use Prim.Native.Nat.{_≤_, _-_}
 use native.Mathlib.Omega.{arith}
 use lib.ListN.{length, take, length-set}
 use Rattle.rules.specs.declared.records.Alternative.{Alternative}
@@ -17,7 +17,9 @@ use Rattle.sizing.proofs.line.own_form.Statement.{statement}
 use Rattle.sizing.proofs.line.own_form.Tie as tie
 
 abbrev Inv-loop : tie.InvT-loop
-Inv-loop s bound n x₀ i₀ x i = (i ≤ n) × (length (x .alternatives) ≡ 16) × (take i (x .alternatives) ≡ map (λ row. carried (take (s .taken) (s .list)) (ownRow row)) (take i (bound .rows)))
+Inv-loop s bound n x₀ i₀ x i =
+    (i ≤ n) × (length (x .alternatives) ≡ 16)
+    × (take i (x .alternatives) ≡ map (λ row. carried (take (s .taken) (s .list)) (ownRow row)) (take i (bound .rows)))
 
 abbrev μ-loop : tie.MeasureT-loop
 μ-loop s bound n x₀ i₀ x i = n - i
@@ -35,10 +37,18 @@ element-copy-out-row : tie.Need-element-copy-out-row Inv-loop μ-loop
 element-copy-out-row c = let f = c .before .before .before .pre .bound .few in omega arith
 
 widen-requires : tie.Need-widen-requires Inv-loop μ-loop
-widen-requires c κs = c .before .before .before .before .pre .bound .each (c .before .before .loop .i) (c .before .loop-test .taken)
+widen-requires c κs =
+    let at-loop-test = c .before in
+    let at-loop = at-loop-test .before in
+    let start = at-loop .before .before in
+    start .pre .bound .each (at-loop .loop .i) (at-loop-test .loop-test .taken)
 
 carry-requires : tie.Need-carry-requires Inv-loop μ-loop
-carry-requires c κs = rw (c .widen .ensures) (c .before .before .before .before .before .pre .carrying (c .before .before .before .loop .i) (c .before .before .loop-test .taken))
+carry-requires c κs =
+    let at-loop-test = c .before .before in
+    let at-loop = at-loop-test .before in
+    let start = at-loop .before .before in
+    rw (c .widen .ensures) (start .pre .carrying (at-loop .loop .i) (at-loop-test .loop-test .taken))
 
 mul-t10 : tie.Need-mul-t10 Inv-loop μ-loop
 mul-t10 c = let f = c .before .before .before .before .before .before .pre .bound .few in omega arith
@@ -53,10 +63,47 @@ loop-less : tie.Need-loop-less Inv-loop μ-loop
 loop-less c = search needs
 
 loop-again : tie.Need-loop-again Inv-loop μ-loop
-loop-again c = let f = c .before .before .before .before .before .before .pre .bound .few in let g = c .before .before .before .before .before .before .pre .bound .four in let a = c .before .before .before .before .loop .inv .1 in (omega arith, length-set (c .before .before .before .before .loop .x .alternatives) (c .before .before .before .before .loop .i) (c .carry .result) ∙ c .before .before .before .before .loop .inv .1, take-stored (c .before .before .before .before .loop .x .alternatives) (map (λ row. carried (take (c .before .before .before .before .before .before .args .s .taken) (c .before .before .before .before .before .before .args .s .list)) (ownRow row)) (take (c .before .before .before .before .loop .i) (c .before .before .before .before .before .before .args .t1 .rows))) (c .before .before .before .before .loop .i) (c .carry .result) (omega arith) (c .before .before .before .before .loop .inv .2) ∙ ap (λ (y : Alternative). map (λ row. carried (take (c .before .before .before .before .before .before .args .s .taken) (c .before .before .before .before .before .before .args .s .list)) (ownRow row)) (take (c .before .before .before .before .loop .i) (c .before .before .before .before .before .before .args .t1 .rows)) ++ (y ∷ [])) (rw (c .before .widen .ensures) at (c .carry .ensures)) ∙ sym (map-next noRow (λ row. carried (take (c .before .before .before .before .before .before .args .s .taken) (c .before .before .before .before .before .before .args .s .list)) (ownRow row)) (c .before .before .before .before .before .before .args .t1 .rows) (c .before .before .before .before .loop .i) (omega arith)))
+loop-again c =
+    let at-widen = c .before in
+    let at-loop = at-widen .before .before .before in
+    let start = at-loop .before .before in
+    let f = start .pre .bound .few in
+    let g = start .pre .bound .four in
+    let a = at-loop .loop .inv .1 in (
+      omega arith,
+      length-set (at-loop .loop .x .alternatives) (at-loop .loop .i) (c .carry .result)
+          ∙ at-loop .loop .inv .1,
+      take-stored (at-loop .loop .x .alternatives)
+          (map (λ row. carried (take (start .args .s .taken) (start .args .s .list)) (ownRow row))
+          (take (at-loop .loop .i) (start .args .t1 .rows))) (at-loop .loop .i) (c .carry .result)
+          (omega arith) (at-loop .loop .inv .2) ∙ ap (λ (y : Alternative). map
+          (λ row. carried (take (start .args .s .taken) (start .args .s .list)) (ownRow row))
+          (take (at-loop .loop .i) (start .args .t1 .rows))
+          ++ (y ∷ [])) (rw (at-widen .widen .ensures) at (c .carry .ensures)) ∙ sym (map-next noRow
+          (λ row. carried (take (start .args .s .taken) (start .args .s .list)) (ownRow row)) (start .args .t1 .rows) (at-loop .loop .i)
+          (omega arith)),
+    )
 
 returns : tie.Need-returns Inv-loop μ-loop
-returns c = let e : c .before .loop .i ≡ c .before .before .before .args .t1 .count = omega arith in let q = rw e at (c .before .loop .inv .2) in let f = c .before .before .before .pre .bound .few in record { right = record { few = omega arith; long = c .before .loop .inv .1; wide = rw q (all-mapped (λ row. carried (take (c .before .before .before .args .s .taken) (c .before .before .before .args .s .list)) (ownRow row)) (λ row (u : Unit {0}). carried-wide (take (c .before .before .before .args .s .taken) (c .before .before .before .args .s .list)) (ownRow row) (widened-wide 0 (row .coefficients) (row .constant))) (all-any (take (c .before .before .before .args .t1 .count) (c .before .before .before .args .t1 .rows)))) }; count = refl; same = q }
+returns c =
+    let at-loop = c .before in
+    let start = at-loop .before .before in
+    let e : at-loop .loop .i ≡ start .args .t1 .count = omega arith in
+    let q = rw e at (at-loop .loop .inv .2) in
+    let f = start .pre .bound .few in
+    record {
+      right = record {
+        few = omega arith;
+        long = at-loop .loop .inv .1;
+        wide = rw q
+            (all-mapped (λ row. carried (take (start .args .s .taken) (start .args .s .list)) (ownRow row))
+            (λ row (u : Unit {0}). carried-wide (take (start .args .s .taken) (start .args .s .list)) (ownRow row)
+            (widened-wide 0 (row .coefficients) (row .constant)))
+            (all-any (take (start .args .t1 .count) (start .args .t1 .rows))));
+      };
+      count = refl;
+      same = q;
+    }
 
 pub own-form-spec : {M : Type 1} → statement M
 own-form-spec =

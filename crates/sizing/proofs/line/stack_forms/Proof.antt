@@ -14,7 +14,9 @@ use Rattle.sizing.proofs.line.stack_forms.Statement.{statement}
 use Rattle.sizing.proofs.line.stack_forms.Tie as tie
 
 abbrev Inv-loop : tie.InvT-loop
-Inv-loop st s n r₀ i₀ r i = (i ≤ n) × (length r ≡ 20) × ((j : ℕ) → j < i → Single (getD r j noForm) (carried (take (s .taken) (s .list)) (variableOnly (getD (st .stack) j 0))))
+Inv-loop st s n r₀ i₀ r i =
+    (i ≤ n) × (length r ≡ 20) × ((j : ℕ) → j < i → Single (getD r j noForm)
+    (carried (take (s .taken) (s .list)) (variableOnly (getD (st .stack) j 0))))
 
 abbrev μ-loop : tie.MeasureT-loop
 μ-loop st s n r₀ i₀ r i = n - i
@@ -29,16 +31,35 @@ element-copy-out-v : tie.Need-element-copy-out-v Inv-loop μ-loop
 element-copy-out-v c = let h = c .before .before .before .before .pre .high in omega arith
 
 cast-v : tie.Need-cast-v Inv-loop μ-loop
-cast-v c = omega (arith, c .before .before .before .before .before .pre .small (c .before .before .loop .i) (c .before .loop-test .taken))
+cast-v c =
+    let at-loop-test = c .before in
+    let at-loop = at-loop-test .before in
+    let start = at-loop .before .before .before in
+    omega (arith, start .pre .small (at-loop .loop .i) (at-loop-test .loop-test .taken))
 
 unit-requires : tie.Need-unit-requires Inv-loop μ-loop
-unit-requires c κs = c .before .before .before .before .before .pre .small (c .before .before .loop .i) (c .before .loop-test .taken)
+unit-requires c κs =
+    let at-loop-test = c .before in
+    let at-loop = at-loop-test .before in
+    let start = at-loop .before .before .before in
+    start .pre .small (at-loop .loop .i) (at-loop-test .loop-test .taken)
 
 carry-requires : tie.Need-carry-requires Inv-loop μ-loop
-carry-requires c κs = rw (c .unit .ensures) (c .before .before .before .before .before .before .pre .carrying (c .before .before .before .loop .i) (c .before .before .loop-test .taken))
+carry-requires c κs =
+    let at-loop-test = c .before .before in
+    let at-loop = at-loop-test .before in
+    let start = at-loop .before .before .before in
+    rw (c .unit .ensures) (start .pre .carrying (at-loop .loop .i) (at-loop-test .loop-test .taken))
 
 single-requires : tie.Need-single-requires Inv-loop μ-loop
-single-requires c κs = rw (c .carry .ensures, c .before .unit .ensures) (carried-wide (take (c .before .before .before .before .before .before .before .args .t1 .taken) (c .before .before .before .before .before .before .before .args .t1 .list)) (variableOnly (getD (c .before .before .before .before .before .before .before .args .t1 .stack) (c .before .before .before .before .loop .i) 0)) (variable-wide (getD (c .before .before .before .before .before .before .before .args .t1 .stack) (c .before .before .before .before .loop .i) 0)))
+single-requires c κs =
+    let at-unit = c .before in
+    let at-loop = at-unit .before .before .before in
+    let start = at-loop .before .before .before in
+    rw (c .carry .ensures, at-unit .unit .ensures)
+    (carried-wide (take (start .args .t1 .taken) (start .args .t1 .list))
+    (variableOnly (getD (start .args .t1 .stack) (at-loop .loop .i) 0))
+    (variable-wide (getD (start .args .t1 .stack) (at-loop .loop .i) 0)))
 
 mul-r : tie.Need-mul-r Inv-loop μ-loop
 mul-r c = let h = c .before .before .before .before .before .before .before .before .pre .high in omega arith
@@ -53,7 +74,21 @@ loop-less : tie.Need-loop-less Inv-loop μ-loop
 loop-less c = search needs
 
 loop-again : tie.Need-loop-again Inv-loop μ-loop
-loop-again c = let h = c .before .before .before .before .before .before .before .before .pre .high in let n = c .before .before .before .before .before .loop .inv .1 in (omega arith, length-set (c .before .before .before .before .before .loop .r) (c .before .before .before .before .before .loop .i) (c .single .result) ∙ c .before .before .before .before .before .loop .inv .1, stored-each noForm (λ j x. Single x (carried (take (c .before .before .before .before .before .before .before .before .args .t1 .taken) (c .before .before .before .before .before .before .before .before .args .t1 .list)) (variableOnly (getD (c .before .before .before .before .before .before .before .before .args .t1 .stack) j 0)))) (c .before .before .before .before .before .loop .r) (c .before .before .before .before .before .loop .i) (c .single .result) (omega arith) (c .before .before .before .before .before .loop .inv .2) (rw (c .before .carry .ensures, c .before .before .unit .ensures) at (c .single .ensures)))
+loop-again c =
+    let at-carry = c .before in
+    let at-unit = at-carry .before in
+    let at-loop = at-unit .before .before .before in
+    let start = at-loop .before .before .before in
+    let h = start .pre .high in
+    let n = at-loop .loop .inv .1 in (
+      omega arith,
+      length-set (at-loop .loop .r) (at-loop .loop .i) (c .single .result)
+          ∙ at-loop .loop .inv .1,
+      stored-each noForm (λ j x. Single x
+          (carried (take (start .args .t1 .taken) (start .args .t1 .list))
+          (variableOnly (getD (start .args .t1 .stack) j 0)))) (at-loop .loop .r) (at-loop .loop .i) (c .single .result)
+          (omega arith) (at-loop .loop .inv .2) (rw (at-carry .carry .ensures, at-unit .unit .ensures) at (c .single .ensures)),
+    )
 
 returns : tie.Need-returns Inv-loop μ-loop
 returns c = record { long = c .before .loop .inv .1; each = λ i h. c .before .loop .inv .2 i (omega arith) }

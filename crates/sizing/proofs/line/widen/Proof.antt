@@ -44,7 +44,9 @@ cast-t23 : tie.Need-cast-t23
 cast-t23 c = search needs
 
 returns : tie.Need-returns
-returns c = widened-four (c .before .before .args .row .coefficients) (c .before .before .args .row .constant) (c .before .before .pre .four)
+returns c =
+    let start = c .before .before in
+    widened-four (start .args .row .coefficients) (start .args .row .constant) (start .pre .four)
 
 pub widen-spec : {M : Type 1} → statement M
 widen-spec =

@@ -1,6 +1,5 @@
 -- The split stands behind those before it.
 use mathlib.Core.Path.{refl, _∙_}
-use Prim.Native.Nat.{_-_}
 use native.Mathlib.Omega.{arith}
 use lib.ListN.{length-set}
 use Rattle.sizing.specs.States.{splitsIn}

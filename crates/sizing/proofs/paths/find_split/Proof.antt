@@ -38,8 +38,11 @@ loop-less c = search needs
 loop-again : tie.Need-loop-again Inv-loop μ-loop
 loop-again c =
     let l = c .before .before .before .before .loop in
-    let s = c .before .before .before .before .before in
-    (search needs, below-more (λ j. s .args .v ≡ getD (s .args .t1 .list) j noSplit .variable → ⊥) (l .i) (l .inv .1) (λ e. c .if1 .left (sym e)))
+    let s = c .before .before .before .before .before in (
+      search needs,
+      below-more (λ j. s .args .v ≡ getD (s .args .t1 .list) j noSplit .variable
+          → ⊥) (l .i) (l .inv .1) (λ e. c .if1 .left (sym e)),
+    )
 
 returns-2 : tie.Need-returns-2 Inv-loop μ-loop
 returns-2 c =

@@ -1,7 +1,7 @@
 -- The slot stands behind the stack.
 use mathlib.Core.Path.{refl, sym, ap, _∙_}
 use mathlib.Core.List.{[], _∷_, _++_}
-use Prim.Native.Nat.{ℕ, _+_, _-_}
+use Prim.Native.Nat.{ℕ}
 use native.Mathlib.Omega.{arith}
 use lib.ListN.{getD, length-set}
 use lib.Seq.{getD-take}
@@ -28,7 +28,8 @@ returns c =
     let x = getD (st .stack) (s .args .k) 0 in (
       record { visited = refl; count = refl; taken = refl; list = refl; long = length-set (st .stack) (st .height) x ∙ l },
       refl,
-      take-stored (st .stack) (stackIn st) (st .height) x (omega arith) refl ∙ ap (λ (v : ℕ). stackIn st ++ (v ∷ [])) (sym (getD-take (st .height) (st .stack) (s .args .k) 0 (s .pre .1))),
+      take-stored (st .stack) (stackIn st) (st .height) x (omega arith) refl
+          ∙ ap (λ (v : ℕ). stackIn st ++ (v ∷ [])) (sym (getD-take (st .height) (st .stack) (s .args .k) 0 (s .pre .1))),
     )
 
 pub load-variable-spec : {M : Type 1} → statement M

@@ -27,7 +27,8 @@ loop-holds c =
       search needs,
       omega arith,
       record { visited = refl; count = refl; taken = refl; list = refl; long = s .pre .3 },
-      rw (add-zero (s .args .st .height - 1), up-none (s .args .first)) (sym (append-nil (take (s .args .st .height - 1) (s .args .st .stack)))),
+      rw (add-zero (s .args .st .height - 1), up-none (s .args .first))
+          (sym (append-nil (take (s .args .st .height - 1) (s .args .st .stack)))),
     )
 
 add-r : tie.Need-add-r Inv-loop μ-loop
@@ -54,7 +55,13 @@ loop-again c =
     let base = s .args .st .height - 1 in (
       search needs,
       omega arith,
-      record { visited = q .visited; count = q .count; taken = q .taken; list = q .list; long = length-set (l .r .stack) (base + l .i) (l .v) ∙ q .long },
+      record {
+        visited = q .visited;
+        count = q .count;
+        taken = q .taken;
+        list = q .list;
+        long = length-set (l .r .stack) (base + l .i) (l .v) ∙ q .long;
+      },
       rw (l .inv .1) (parts-next (l .r .stack) (take base (s .args .st .stack)) base (s .args .first) (l .i) (omega arith) (l .inv .3)),
     )
 

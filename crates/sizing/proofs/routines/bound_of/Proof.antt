@@ -13,7 +13,8 @@ use Rattle.sizing.proofs.routines.bound_of.Tie as tie
 
 module _ (rows : List (List ℕ)) (g : ℕ) where
   four : {a b c d : AlternativeRecord}
-      → a ≡ alternativeIn (getD rows (4 * g) []) → b ≡ alternativeIn (getD rows (4 * g + 1) []) → c ≡ alternativeIn (getD rows (4 * g + 2) []) → d ≡ alternativeIn (getD rows (4 * g + 3) [])
+      → a ≡ alternativeIn (getD rows (4 * g) []) → b ≡ alternativeIn (getD rows (4 * g + 1) [])
+      → c ≡ alternativeIn (getD rows (4 * g + 2) []) → d ≡ alternativeIn (getD rows (4 * g + 3) [])
       → (k : ℕ) → k < 4 → getD (a ∷ b ∷ c ∷ d ∷ []) k noRow ≡ alternativeIn (getD rows (4 * g + k) [])
   four ea eb ec ed zero h = let e : 4 * g + 0 ≡ 4 * g = omega arith in rw e ea
   four ea eb ec ed (suc zero) h = eb
@@ -79,7 +80,18 @@ alternative-in-requires-4 : tie.Need-alternative-in-requires-4
 alternative-in-requires-4 c κs = λ j l. c .before .before .before .before .before .before .before .pre .small _ j l
 
 returns : tie.Need-returns
-returns c = record { count-is = refl; long = refl; row = four (c .before .before .before .before .before .before .before .before .args .alternatives .now) (c .before .before .before .before .before .before .before .before .args .g) (c .before .before .before .before .before .before .alternative-in .ensures) (c .before .before .before .before .alternative-in2 .ensures) (c .before .before .alternative-in3 .ensures) (c .alternative-in4 .ensures) }
+returns c =
+    let at-alternative-in3 = c .before .before in
+    let at-alternative-in2 = at-alternative-in3 .before .before in
+    let at-alternative-in = at-alternative-in2 .before .before in
+    let start = at-alternative-in .before .before in
+    record {
+      count-is = refl;
+      long = refl;
+      row =
+          four (start .args .alternatives .now) (start .args .g) (at-alternative-in .alternative-in .ensures)
+          (at-alternative-in2 .alternative-in2 .ensures) (at-alternative-in3 .alternative-in3 .ensures) (c .alternative-in4 .ensures);
+    }
 
 pub bound-of-spec : {M : Type 1} → statement M
 bound-of-spec =

@@ -19,10 +19,13 @@ use borrow.Author.Needs.{needs}
 use Rattle.sizing.proofs.routines.maker_of.Statement.{statement}
 use Rattle.sizing.proofs.routines.maker_of.Tie as tie
 
-no-maker : (bytes : List ℕ) (ins : Instruction) (m : Maker) → m .makes ≡ false → OneOf (0 ∷ 3 ∷ 4 ∷ 5 ∷ []) (tagOf the-type ins) → MakerIs bytes ins m
+no-maker : (bytes : List ℕ) (ins : Instruction) (m : Maker) → m .makes ≡ false → OneOf (0 ∷ 3 ∷ 4 ∷ 5 ∷ []) (tagOf the-type ins)
+    → MakerIs bytes ins m
 no-maker bytes (Load a) m e k = e
-no-maker bytes (Build c) m e k = absurd (⊎-elim (λ z. omega arith) (λ r. ⊎-elim (λ z. omega arith) (λ q. ⊎-elim (λ z. omega arith) (λ z. omega arith) q) r) k)
-no-maker bytes (Call g) m e k = absurd (⊎-elim (λ z. omega arith) (λ r. ⊎-elim (λ z. omega arith) (λ q. ⊎-elim (λ z. omega arith) (λ z. omega arith) q) r) k)
+no-maker bytes (Build c) m e k =
+    absurd (⊎-elim (λ z. omega arith) (λ r. ⊎-elim (λ z. omega arith) (λ q. ⊎-elim (λ z. omega arith) (λ z. omega arith) q) r) k)
+no-maker bytes (Call g) m e k =
+    absurd (⊎-elim (λ z. omega arith) (λ r. ⊎-elim (λ z. omega arith) (λ q. ⊎-elim (λ z. omega arith) (λ z. omega arith) q) r) k)
 no-maker bytes (Branch c b) m e k = e
 no-maker bytes Return m e k = e
 no-maker bytes Stop m e k = e
@@ -37,7 +40,11 @@ mul-build-maker : tie.Need-mul-build-maker
 mul-build-maker c = search needs
 
 element-copy-out-build-maker : tie.Need-element-copy-out-build-maker
-element-copy-out-build-maker c = let h : c .before .before .ins .given .0 .0 < byteAt (payload (c .before .before .before .before .pre .0)) 2 = rw (c .before .before .ins .given .1) at (c .before .before .before .before .pre .2 .operand) in omega (arith, c .wide .ensures .0, c .before .before .before .before .pre .2 .records .few-constructors)
+element-copy-out-build-maker c =
+    let at-ins = c .before .before in
+    let start = at-ins .before .before in
+    let h : at-ins .ins .given .0 .0 < byteAt (payload (start .pre .0)) 2 = rw (at-ins .ins .given .1) at (start .pre .1 .operand) in
+    omega (arith, c .wide .ensures .0, start .pre .1 .records .few-constructors)
 
 build-maker-requires : tie.Need-build-maker-requires
 build-maker-requires c κs = search needs
@@ -49,16 +56,34 @@ wide-requires-2 : tie.Need-wide-requires-2
 wide-requires-2 c κs = search needs
 
 routine-of-requires : tie.Need-routine-of-requires
-routine-of-requires c κs = let h : c .before .before .ins2 .given .0 .0 < byteAt (payload (c .before .before .before .before .pre .0)) 3 = rw (c .before .before .ins2 .given .1) at (c .before .before .before .before .pre .2 .operand) in (_, _, _, (c .before .before .before .before .pre .2 .records, rw (c .wide2 .ensures .0) h))
+routine-of-requires c κs =
+    let at-ins2 = c .before .before in
+    let start = at-ins2 .before .before in
+    let h : at-ins2 .ins2 .given .0 .0 < byteAt (payload (start .pre .0)) 3 = rw (at-ins2 .ins2 .given .1) at (start .pre .1 .operand) in
+    (_, _, (start .pre .1 .records, rw (c .wide2 .ensures .0) h))
 
 returns : tie.Need-returns
-returns c = λ file n a. let h : c .before .before .before .before .ins .given .0 .0 < byteAt (payload file) 2 = rw (c .before .before .before .before .ins .given .1) at (a .operand) in rw (c .before .before .before .before .ins .given .1) (build-is (a .records) (c .before .before .before .before .ins .given .0 .0) h (rw (c .before .before .wide .ensures .0) at (c .build-maker .ensures)))
+returns c =
+    let at-wide = c .before .before in
+    let at-ins = at-wide .before .before in
+    λ file a. let h : at-ins .ins .given .0 .0 < byteAt (payload file) 2 =
+    rw (at-ins .ins .given .1) at (a .operand) in
+    rw (at-ins .ins .given .1) (build-is (a .records) (at-ins .ins .given .0 .0) h
+    (rw (at-wide .wide .ensures .0) at (c .build-maker .ensures)))
 
 returns-2 : tie.Need-returns-2
-returns-2 c = λ file n a. let h : c .before .before .before .before .ins2 .given .0 .0 < byteAt (payload file) 3 = rw (c .before .before .before .before .ins2 .given .1) at (a .operand) in let r = rw (c .before .before .wide2 .ensures .0) at (c .before .routine-of .ensures _ _ _ (a .records, rw (c .before .before .wide2 .ensures .0) h)) in rw (c .before .before .before .before .ins2 .given .1) (record { makes = refl; arity = r .arity; bound = r .bound })
+returns-2 c =
+    let at-routine-of = c .before in
+    let at-wide2 = at-routine-of .before in
+    let at-ins2 = at-wide2 .before .before in
+    λ file a. let h : at-ins2 .ins2 .given .0 .0 < byteAt (payload file) 3 =
+    rw (at-ins2 .ins2 .given .1) at (a .operand) in
+    let r = rw (at-wide2 .wide2 .ensures .0)
+    at (at-routine-of .routine-of .ensures _ _ (a .records, rw (at-wide2 .wide2 .ensures .0) h)) in
+    rw (at-ins2 .ins2 .given .1) (record { makes = refl; arity = r .arity; bound = r .bound })
 
 returns-3 : tie.Need-returns-3
-returns-3 c = λ file n a. no-maker (payload file) (c .before .args .ins) _ refl (c .match .keys3)
+returns-3 c = λ file a. no-maker (payload file) (c .before .args .ins) _ refl (c .match .keys3)
 
 pub maker-of-spec : {M : Type 1} → statement M
 maker-of-spec =

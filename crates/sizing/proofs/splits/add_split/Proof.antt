@@ -16,7 +16,8 @@ use Rattle.sizing.proofs.splits.add_split.Tie as tie
 
 abbrev Inv-loop : tie.InvT-loop
 Inv-loop a v first parts w c r₀ j₀ r j =
-    (j ≤ parts) × Wide r × (r .constant ≡ a .constant) × (added c (spanned first parts w) (cleared v a) ≡ added c (spanned (first + j) (parts - j) w) r)
+    (j ≤ parts) × Wide r × (r .constant ≡ a .constant)
+    × (added c (spanned first parts w) (cleared v a) ≡ added c (spanned (first + j) (parts - j) w) r)
     × ((i : ℕ) → first + j ≤ i → coefficient r i ≤ 15)
 
 cost : (a : Alternative) (p : Split) → coefficient a (p .variable) ≤ 15 → p .weight ≤ 255 → coefficient a (p .variable) * p .weight ≤ 3825
@@ -98,7 +99,8 @@ loop-again c =
       search needs,
       bumped-wide at v (l .r) (l .inv .1),
       l .inv .2,
-      l .inv .3 ∙ spanned-step v (s .args .p .first) (l .j) (s .args .p .parts) (s .args .p .weight) (l .r) (l .inv .1) (s .pre .1) (c .before .loop-test .taken),
+      l .inv .3 ∙ spanned-step v (s .args .p .first) (l .j) (s .args .p .parts) (s .args .p .weight) (l .r) (l .inv .1) (s .pre .1)
+          (c .before .loop-test .taken),
       λ i g. rw (bumped-other at v (l .r) i (λ e. omega arith)) (l .inv .4 i (omega arith)),
     )
 

@@ -32,7 +32,8 @@ add-split-requires c κs =
     let s = c .before .before .before in
     let l = c .before .before .loop in
     let q = l .inv .2 (s .pre) in
-    carrying-asks (s .args .a) (l .r) (s .args .t2 .taken) (s .args .t2 .list) (s .pre) (l .i) (q .0) (c .before .loop-test .taken) (q .1) (q .2)
+    carrying-asks (s .args .a) (l .r) (s .args .t2 .taken) (s .args .t2 .list) (s .pre) (l .i) (q .0) (c .before .loop-test .taken) (q .1)
+    (q .2)
 
 add-i : tie.Need-add-i Inv-loop μ-loop
 add-i c = search needs
@@ -48,8 +49,11 @@ loop-again c =
     let q = l .inv .2 (s .pre) in
     let e = c .add-split .ensures in (
       search needs,
-      l .inv .1 ∙ carrying-left (s .args .a) (l .r) (s .args .t2 .taken) (s .args .t2 .list) (s .pre) (l .i) (q .0) h (q .1) (q .2) ∙ ap (carried (drop (l .i + 1) (take (s .args .t2 .taken) (s .args .t2 .list)))) (sym e),
-      λ p. let z = l .inv .2 p in rw e (carrying-next (s .args .a) (l .r) (s .args .t2 .taken) (s .args .t2 .list) p (l .i) (z .0) h (z .1) (z .2)),
+      l .inv .1 ∙ carrying-left (s .args .a) (l .r) (s .args .t2 .taken) (s .args .t2 .list) (s .pre) (l .i) (q .0) h (q .1) (q .2)
+          ∙ ap (carried (drop (l .i + 1) (take (s .args .t2 .taken) (s .args .t2 .list)))) (sym e),
+      λ p. let z =
+          l .inv .2 p in
+          rw e (carrying-next (s .args .a) (l .r) (s .args .t2 .taken) (s .args .t2 .list) p (l .i) (z .0) h (z .1) (z .2)),
     )
 
 returns : tie.Need-returns Inv-loop μ-loop
@@ -58,7 +62,8 @@ returns c =
     let l = c .before .loop in
     let a = s .pre .long in
     let b = s .pre .few in
-    let e : length (take (s .args .t2 .taken) (s .args .t2 .list)) ≡ s .args .t2 .taken = length-take-le (s .args .t2 .taken) (s .args .t2 .list) (omega arith) in
+    let e : length (take (s .args .t2 .taken) (s .args .t2 .list)) ≡ s .args .t2 .taken =
+    length-take-le (s .args .t2 .taken) (s .args .t2 .list) (omega arith) in
     sym (l .inv .1 ∙ carried-end (take (s .args .t2 .taken) (s .args .t2 .list)) (l .i) (l .r) (omega arith))
 
 pub carry-spec : {M : Type 1} → statement M

@@ -5,24 +5,27 @@ use native.Mathlib.Omega.{arith}
 use Rattle.rules.specs.Container.{payload}
 use Rattle.rules.specs.Records.{headOffset}
 use Rattle.sizing.specs.Routines.{RoutineIs}
-use Rattle.sizing.proofs.SlotLaws.{Slots, routine-few, slots-start, slots-end, slots-low, slots-asks, slots-refused, slots-on, slots-near, slots-next}
+use Rattle.sizing.proofs.SlotLaws.{Slots, routine-few, slots-start, slots-end, slots-low, slots-asks, slots-refused, slots-on}
+use Rattle.sizing.proofs.SlotLaws.{slots-near, slots-next}
 use borrow.Author.Needs.{needs}
 use Rattle.sizing.proofs.walk.function_sizes.Statement.{statement}
 use Rattle.sizing.proofs.walk.function_sizes.Tie as tie
 
 abbrev Inv-loop : tie.InvT-loop
-Inv-loop program n constructors functions alternatives g f saved₀ last i₀ saved i = Slots program g saved i
+Inv-loop file constructors functions alternatives g f saved₀ last i₀ saved i = Slots file g saved i
 
 abbrev μ-loop : tie.MeasureT-loop
-μ-loop program n constructors functions alternatives g f saved₀ last i₀ saved i = last + 1 - i
+μ-loop file constructors functions alternatives g f saved₀ last i₀ saved i = last + 1 - i
 
 ---- What is known at a place of the code
 
-routine : (c : tie.After-routine-of Inv-loop μ-loop) → let a = c .before .before .args in RoutineIs (payload (a .program .now)) (headOffset (payload (a .program .now)) (a .g)) (c .routine-of .result)
-routine c = c .routine-of .ensures _ _ _ (c .before .before .pre .walking .records, c .before .before .pre .there)
+routine : (c : tie.After-routine-of Inv-loop μ-loop) → let a =
+    c .before .before .args in
+    RoutineIs (payload (a .file .now)) (headOffset (payload (a .file .now)) (a .g)) (c .routine-of .result)
+routine c = c .routine-of .ensures _ _ (c .before .before .pre .walking .records, c .before .before .pre .there)
 
 routine-of-requires : tie.Need-routine-of-requires Inv-loop μ-loop
-routine-of-requires c κs = (_, _, _, (c .before .pre .walking .records, c .before .pre .there))
+routine-of-requires c κs = (_, _, (c .before .pre .walking .records, c .before .pre .there))
 
 unvisited-requires : tie.Need-unvisited-requires Inv-loop μ-loop
 unvisited-requires c κs = search needs
@@ -34,46 +37,134 @@ array-set-from-saved : tie.Need-array-set-from-saved Inv-loop μ-loop
 array-set-from-saved c = search needs
 
 loop-holds : tie.Need-loop-holds Inv-loop μ-loop
-loop-holds c = slots-start (c .before .before .before .before .pre) (routine (c .before .before)) (c .before .unvisited .result) (c .start-state .result) (c .before .unvisited .ensures) (c .start-state .ensures)
+loop-holds c =
+    let at-unvisited = c .before in
+    let earlier = at-unvisited .before in
+    let start = earlier .before .before in
+    slots-start (start .pre) (routine earlier) (at-unvisited .unvisited .result) (c .start-state .result) (at-unvisited .unvisited .ensures)
+    (c .start-state .ensures)
 
 mul-st : tie.Need-mul-st Inv-loop μ-loop
-mul-st c = omega (arith, slots-low (c .before .before .before .before .before .before .pre) (routine (c .before .before .before .before)) (c .before .loop .inv) (c .loop-test .taken))
+mul-st c =
+    let at-loop = c .before in
+    let earlier = at-loop .before .before .before in
+    let start = earlier .before .before in
+    omega (arith, slots-low (start .pre) (routine earlier) (at-loop .loop .inv) (c .loop-test .taken))
 
 array-copy-out-st : tie.Need-array-copy-out-st Inv-loop μ-loop
-array-copy-out-st c = omega (arith, slots-low (c .before .before .before .before .before .before .pre) (routine (c .before .before .before .before)) (c .before .loop .inv) (c .loop-test .taken))
+array-copy-out-st c =
+    let at-loop = c .before in
+    let earlier = at-loop .before .before .before in
+    let start = earlier .before .before in
+    omega (arith, slots-low (start .pre) (routine earlier) (at-loop .loop .inv) (c .loop-test .taken))
 
 step-requires : tie.Need-step-requires Inv-loop μ-loop
-step-requires c κs = slots-asks (c .before .before .before .before .before .before .before .pre) (routine (c .before .before .before .before .before)) (c .before .before .loop .inv) (c .before .loop-test .taken)
+step-requires c κs =
+    let at-loop-test = c .before in
+    let at-loop = at-loop-test .before in
+    let earlier = at-loop .before .before .before in
+    let start = earlier .before .before in
+    slots-asks (start .pre) (routine earlier) (at-loop .loop .inv) (at-loop-test .loop-test .taken)
 
 enum-known-checked : tie.Need-enum-known-checked Inv-loop μ-loop
 enum-known-checked c = search needs
 
 returns : tie.Need-returns Inv-loop μ-loop
-returns c = sym (slots-refused (c .before .before .before .before .before .before .before .before .before .before .before .pre) (routine (c .before .before .before .before .before .before .before .before .before)) (c .before .before .before .before .before .before .loop .inv) (c .before .before .before .before .before .loop-test .taken) (c .before .before .before .step .ensures) (c .before .checked .given .0 .0) (c .before .checked .given .1))
+returns c =
+    let at-checked = c .before in
+    let at-step = at-checked .before .before in
+    let at-loop-test = at-step .before .before in
+    let at-loop = at-loop-test .before in
+    let earlier = at-loop .before .before .before in
+    let start = earlier .before .before in
+    sym (slots-refused (start .pre) (routine earlier) (at-loop .loop .inv) (at-loop-test .loop-test .taken) (at-step .step .ensures)
+    (at-checked .checked .given .0 .0) (at-checked .checked .given .1))
 
 enum-told : tie.Need-enum-told Inv-loop μ-loop
 enum-told c = search needs
 
 mul-saved : tie.Need-mul-saved Inv-loop μ-loop
-mul-saved c = omega (arith, slots-near (c .before .before .before .before .before .before .before .before .before .before .before .pre) (routine (c .before .before .before .before .before .before .before .before .before)) (c .before .before .before .before .before .before .loop .inv) (c .before .before .before .before .before .loop-test .taken) (c .before .before .before .step .ensures) (c .before .enum-told .given .1) .0)
+mul-saved c =
+    let at-enum-told = c .before in
+    let at-step = at-enum-told .before .before in
+    let at-loop-test = at-step .before .before in
+    let at-loop = at-loop-test .before in
+    let earlier = at-loop .before .before .before in
+    let start = earlier .before .before in
+    omega (
+      arith,
+      slots-near (start .pre) (routine
+          earlier) (at-loop .loop .inv) (at-loop-test .loop-test .taken) (at-step .step .ensures) (at-enum-told .enum-told .given .1) .0,
+    )
 
 array-set-from-saved-2 : tie.Need-array-set-from-saved-2 Inv-loop μ-loop
-array-set-from-saved-2 c = slots-near (c .before .before .before .before .before .before .before .before .before .before .before .pre) (routine (c .before .before .before .before .before .before .before .before .before)) (c .before .before .before .before .before .before .loop .inv) (c .before .before .before .before .before .loop-test .taken) (c .before .before .before .step .ensures) (c .before .enum-told .given .1) .0
+array-set-from-saved-2 c =
+    let at-enum-told = c .before in
+    let at-step = at-enum-told .before .before in
+    let at-loop-test = at-step .before .before in
+    let at-loop = at-loop-test .before in
+    let earlier = at-loop .before .before .before in
+    let start = earlier .before .before in
+    slots-near (start .pre) (routine earlier) (at-loop .loop .inv) (at-loop-test .loop-test .taken) (at-step .step .ensures)
+    (at-enum-told .enum-told .given .1) .0
 
 mul-saved-2 : tie.Need-mul-saved-2 Inv-loop μ-loop
-mul-saved-2 c = omega (arith, slots-near (c .before .before .before .before .before .before .before .before .before .before .before .before .pre) (routine (c .before .before .before .before .before .before .before .before .before .before)) (c .before .before .before .before .before .before .before .loop .inv) (c .before .before .before .before .before .before .loop-test .taken) (c .before .before .before .before .step .ensures) (c .before .before .enum-told .given .1) .1)
+mul-saved-2 c =
+    let at-enum-told = c .before .before in
+    let at-step = at-enum-told .before .before in
+    let at-loop-test = at-step .before .before in
+    let at-loop = at-loop-test .before in
+    let earlier = at-loop .before .before .before in
+    let start = earlier .before .before in
+    omega (
+      arith,
+      slots-near (start .pre) (routine
+          earlier) (at-loop .loop .inv) (at-loop-test .loop-test .taken) (at-step .step .ensures) (at-enum-told .enum-told .given .1) .1,
+    )
 
 array-set-from-saved-3 : tie.Need-array-set-from-saved-3 Inv-loop μ-loop
-array-set-from-saved-3 c = slots-near (c .before .before .before .before .before .before .before .before .before .before .before .before .pre) (routine (c .before .before .before .before .before .before .before .before .before .before)) (c .before .before .before .before .before .before .before .loop .inv) (c .before .before .before .before .before .before .loop-test .taken) (c .before .before .before .before .step .ensures) (c .before .before .enum-told .given .1) .1
+array-set-from-saved-3 c =
+    let at-enum-told = c .before .before in
+    let at-step = at-enum-told .before .before in
+    let at-loop-test = at-step .before .before in
+    let at-loop = at-loop-test .before in
+    let earlier = at-loop .before .before .before in
+    let start = earlier .before .before in
+    slots-near (start .pre) (routine earlier) (at-loop .loop .inv) (at-loop-test .loop-test .taken) (at-step .step .ensures)
+    (at-enum-told .enum-told .given .1) .1
 
 loop-less : tie.Need-loop-less Inv-loop μ-loop
-loop-less c = let t = c .before .before .before .before .before .before .loop-test .taken in omega (arith, slots-on (c .before .before .before .before .before .before .before .before .before .before .before .before .pre) (routine (c .before .before .before .before .before .before .before .before .before .before)) (c .before .before .before .before .before .before .before .loop .inv) (c .before .before .before .before .before .before .loop-test .taken) (c .before .before .before .before .step .ensures) (c .before .before .enum-told .given .1))
+loop-less c =
+    let at-enum-told = c .before .before in
+    let at-step = at-enum-told .before .before in
+    let at-loop-test = at-step .before .before in
+    let at-loop = at-loop-test .before in
+    let earlier = at-loop .before .before .before in
+    let start = earlier .before .before in
+    let t = at-loop-test .loop-test .taken in
+    omega (
+      arith,
+      slots-on (start .pre) (routine
+          earlier) (at-loop .loop .inv) (at-loop-test .loop-test .taken) (at-step .step .ensures) (at-enum-told .enum-told .given .1),
+    )
 
 loop-again : tie.Need-loop-again Inv-loop μ-loop
-loop-again c = slots-next (c .before .before .before .before .before .before .before .before .before .before .before .before .pre) (routine (c .before .before .before .before .before .before .before .before .before .before)) (c .before .before .before .before .before .before .before .loop .inv) (c .before .before .before .before .before .before .loop-test .taken) (c .before .before .before .before .step .ensures) (c .before .before .enum-told .given .1)
+loop-again c =
+    let at-enum-told = c .before .before in
+    let at-step = at-enum-told .before .before in
+    let at-loop-test = at-step .before .before in
+    let at-loop = at-loop-test .before in
+    let earlier = at-loop .before .before .before in
+    let start = earlier .before .before in
+    slots-next (start .pre) (routine earlier) (at-loop .loop .inv) (at-loop-test .loop-test .taken) (at-step .step .ensures)
+    (at-enum-told .enum-told .given .1)
 
 returns-2 : tie.Need-returns-2 Inv-loop μ-loop
-returns-2 c = sym (slots-end (c .before .before .before .before .before .before .pre) (routine (c .before .before .before .before)) (c .before .loop .inv) (c .loop-test .left))
+returns-2 c =
+    let at-loop = c .before in
+    let earlier = at-loop .before .before .before in
+    let start = earlier .before .before in
+    sym (slots-end (start .pre) (routine earlier) (at-loop .loop .inv) (c .loop-test .left))
 
 pub function-sizes-spec : {M : Type 1} → statement M
 function-sizes-spec =

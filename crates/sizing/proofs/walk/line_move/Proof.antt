@@ -20,10 +20,20 @@ refuse-requires : tie.Need-refuse-requires
 refuse-requires c κs = search needs
 
 returns : tie.Need-returns
-returns c = said-line-end (c .before .before .before .before .before .before .pre) (c .before .before .before .before .straight-line .ensures) (c .before .before .line .given .0 .0) (c .before .before .line .given .1) (c .stay .ensures)
+returns c =
+    let at-line = c .before .before in
+    let at-straight-line = at-line .before .before in
+    let start = at-straight-line .before .before in
+    said-line-end (start .pre) (at-straight-line .straight-line .ensures) (at-line .line .given .0 .0) (at-line .line .given .1)
+    (c .stay .ensures)
 
 returns-2 : tie.Need-returns-2
-returns-2 c = said-line-refused (c .before .before .before .before .before .before .pre) (c .before .before .before .before .straight-line .ensures) (c .before .before .line2 .given .0 .0) (c .before .before .line2 .given .1) (c .refuse .ensures)
+returns-2 c =
+    let at-line2 = c .before .before in
+    let at-straight-line = at-line2 .before .before in
+    let start = at-straight-line .before .before in
+    said-line-refused (start .pre) (at-straight-line .straight-line .ensures) (at-line2 .line2 .given .0 .0) (at-line2 .line2 .given .1)
+    (c .refuse .ensures)
 
 pub line-move-spec : {M : Type 1} → statement M
 line-move-spec =

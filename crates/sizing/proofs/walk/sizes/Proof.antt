@@ -1,54 +1,79 @@
--- Each function passes, or the first that does not decides.
-use mathlib.Core.Path.{_≡_, sym}
+-- The loop keeps that what is left of the pass is the functions from g on.
+use mathlib.Core.Path.{refl, sym, _∙_}
 use Prim.Native.Nat.{_-_}
 use native.Mathlib.Omega.{arith}
-use Rattle.rules.specs.Base.{forEach}
 use Rattle.rules.specs.Container.{payload}
-use Rattle.rules.specs.Records.{programOf}
-use Rattle.rules.specs.Shapes.{sizesRight}
-use Rattle.sizing.proofs.SizesLaws.{functionCheck, sizes-asks, sizes-start, sizes-next, sizes-refused, sizes-end}
+use Rattle.rules.specs.Records.{programIn}
+use Rattle.rules.specs.Shapes.{shapesOf, sizesRight}
+use Rattle.rules.proofs.PassLaws.{Passing, pass-first, pass-stop, pass-next, pass-end, told-as}
+use Rattle.program.proofs.LayoutLaws.{atFunction, functions-few, functions-pass}
+use Rattle.sizing.proofs.SizesLaws.{sizes-asks}
 use borrow.Author.Needs.{needs}
 use Rattle.sizing.proofs.walk.sizes.Statement.{statement}
 use Rattle.sizing.proofs.walk.sizes.Tie as tie
 
 abbrev Inv-loop : tie.InvT-loop
-Inv-loop program n heads constructors functions alternatives m g₀ g = sizesRight (programOf (payload program)) ≡ forEach (functionCheck program) g (m - g)
+Inv-loop file heads constructors functions alternatives m g₀ g = Passing (atFunction (shapesOf (programIn file)) (payload file)) m g
 
 abbrev μ-loop : tie.MeasureT-loop
-μ-loop program n heads constructors functions alternatives m g₀ g = m - g
+μ-loop file heads constructors functions alternatives m g₀ g = m - g
 
 alternative-rows-requires : tie.Need-alternative-rows-requires Inv-loop μ-loop
-alternative-rows-requires c κs = (c .before .pre .program, c .before .pre .function)
+alternative-rows-requires c κs = (c .before .pre .1, c .before .pre .2 .function)
 
-wide-requires : tie.Need-wide-requires Inv-loop μ-loop
-wide-requires c κs = search needs
+cast-m : tie.Need-cast-m Inv-loop μ-loop
+cast-m c = search needs
 
 loop-holds : tie.Need-loop-holds Inv-loop μ-loop
-loop-holds c = sizes-start (c .before .before .before .pre) (c .wide .ensures .0)
+loop-holds c = pass-first
 
 function-sizes-requires : tie.Need-function-sizes-requires Inv-loop μ-loop
-function-sizes-requires c κs = sizes-asks (c .before .before .before .before .before .before .pre) (c .before .before .before .before .alternative-rows .ensures) (λ k. omega (arith, c .before .before .before .before .before .shared-slice-known .given k)) (c .before .before .before .wide .ensures .0) (c .before .before .loop .g) (c .before .loop-test .taken)
+function-sizes-requires c κs =
+    let at-loop-test = c .before in
+    let at-loop = at-loop-test .before in
+    let at-alternative-rows = at-loop .before .before in
+    let at-shared-slice-known = at-alternative-rows .before in
+    let start = at-shared-slice-known .before in
+    sizes-asks (start .pre .0) (start .pre .2) (at-alternative-rows .alternative-rows .ensures)
+    (λ k. omega (arith, at-shared-slice-known .shared-slice-known .given k)) refl (at-loop .loop .g) (at-loop-test .loop-test .taken)
 
 enum-known-r : tie.Need-enum-known-r Inv-loop μ-loop
 enum-known-r c = search needs
 
 returns : tie.Need-returns Inv-loop μ-loop
-returns c = sym (sizes-refused (c .before .before .before .before .before .before .before .before .before .before .pre) (c .before .before .before .before .before .before .loop .inv) (c .before .before .before .before .before .loop-test .taken) (c .before .before .before .function-sizes .ensures) (c .before .r .given .0 .0) (c .before .r .given .1))
+unfolding sizesRight
+returns c =
+    let at-r = c .before in
+    let at-function-sizes = at-r .before .before in
+    let at-loop-test = at-function-sizes .before .before in
+    let at-loop = at-loop-test .before in
+    let start = at-loop .before .before .before .before in
+    pass-stop (at-loop .loop .inv) (at-loop-test .loop-test .taken)
+    (told-as (at-function-sizes .function-sizes .ensures) (at-r .r .given .1))
+    ∙ sym (functions-pass (start .pre .2 .headed) (shapesOf (programIn _)))
 
 enum-told : tie.Need-enum-told Inv-loop μ-loop
 enum-told c = search needs
 
 add-g : tie.Need-add-g Inv-loop μ-loop
-add-g c = let h = c .before .before .before .before .loop-test .taken in omega (arith, c .before .before .before .before .before .before .wide .ensures .1)
+add-g c = omega (arith, functions-few (c .before .before .before .before .before .before .before .before .before .pre .2 .headed))
 
 loop-less : tie.Need-loop-less Inv-loop μ-loop
-loop-less c = let h = c .before .before .before .before .loop-test .taken in omega arith
+loop-less c = omega arith
 
 loop-again : tie.Need-loop-again Inv-loop μ-loop
-loop-again c = sizes-next (c .before .before .before .before .before .before .before .before .before .pre) (c .before .before .before .before .before .loop .inv) (c .before .before .before .before .loop-test .taken) (c .before .before .function-sizes .ensures) (c .enum-told .given .1)
+loop-again c =
+    let at-function-sizes = c .before .before in
+    let at-loop-test = at-function-sizes .before .before in
+    let at-loop = at-loop-test .before in
+    pass-next (at-loop .loop .inv) (at-loop-test .loop-test .taken)
+    (told-as (at-function-sizes .function-sizes .ensures) (c .enum-told .given .1))
 
 returns-2 : tie.Need-returns-2 Inv-loop μ-loop
-returns-2 c = sym (sizes-end (c .before .before .before .before .before .pre) (c .before .loop .inv) (c .loop-test .left))
+unfolding sizesRight
+returns-2 c =
+    pass-end (c .before .loop .inv) (c .loop-test .left)
+    ∙ sym (functions-pass (c .before .before .before .before .before .pre .2 .headed) (shapesOf (programIn _)))
 
 pub sizes-spec : {M : Type 1} → statement M
 sizes-spec =
@@ -57,7 +82,7 @@ sizes-spec =
     Inv-loop
     μ-loop
     alternative-rows-requires
-    wide-requires
+    cast-m
     loop-holds
     function-sizes-requires
     enum-known-r

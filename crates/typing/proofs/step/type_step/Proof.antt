@@ -1,6 +1,8 @@
 -- Each arm is the rule of its operation.
 use borrow.Author.Needs.{needs}
-use Rattle.typing.proofs.TypeLaws.{aims-branch, stop-says}
+use Rattle.operands.proofs.OperationLaws.{stop-says}
+use Rattle.typing.proofs.TypeWalk.{aims-branch}
+use Rattle.typing.proofs.SignatureLaws.{build-rule, call-rule, branch-rule}
 use Rattle.typing.proofs.step.type_step.Statement.{statement}
 use Rattle.typing.proofs.step.type_step.Tie as tie
 
@@ -13,20 +15,41 @@ load-requires c κs = search needs
 enum-known-ins-2 : tie.Need-enum-known-ins-2
 enum-known-ins-2 c = search needs
 
-build-requires : tie.Need-build-requires
-build-requires c κs = search needs
+constructor-signature-requires : tie.Need-constructor-signature-requires
+constructor-signature-requires c κs = search needs
+
+make-requires : tie.Need-make-requires
+make-requires c κs =
+    let start = c .before .before .before .before in
+    (start .pre .1, start .pre .2, c .constructor-signature .ensures _ _ (start .pre .0 .1) .few)
 
 enum-known-ins-3 : tie.Need-enum-known-ins-3
 enum-known-ins-3 c = search needs
 
-call-requires : tie.Need-call-requires
-call-requires c κs = search needs
+function-signature-requires : tie.Need-function-signature-requires
+function-signature-requires c κs = search needs
+
+make-requires-2 : tie.Need-make-requires-2
+make-requires-2 c κs =
+    let start = c .before .before .before .before in
+    (start .pre .1, start .pre .2, c .function-signature .ensures _ _ (start .pre .0 .1) .few)
 
 enum-known-ins-4 : tie.Need-enum-known-ins-4
 enum-known-ins-4 c = search needs
 
+constructor-signature-requires-2 : tie.Need-constructor-signature-requires-2
+constructor-signature-requires-2 c κs = search needs
+
 branch-requires : tie.Need-branch-requires
-branch-requires c κs = ((c .before .before .before .pre .0 .0, c .before .before .before .pre .0 .1, _, c .before .before .before .pre .0 .2), c .before .before .before .pre .1, c .before .before .before .pre .2, aims-branch (c .before .ins4 .given .1) (c .before .before .before .pre .3))
+branch-requires c κs =
+    let at-ins4 = c .before .before in
+    let start = at-ins4 .before .before in (
+      start .pre .1,
+      start .pre .2,
+      c .constructor-signature2 .ensures _ _ (start .pre .0 .1) .few,
+      aims-branch (at-ins4 .ins4 .given .1)
+          (start .pre .3),
+    )
 
 enum-told : tie.Need-enum-told
 enum-told c = search needs
@@ -41,22 +64,29 @@ ends-requires : tie.Need-ends-requires
 ends-requires c κs = search needs
 
 returns : tie.Need-returns
-returns c = λ file n a g f q. rw (c .before .before .ins .given .1) (c .load .ensures _ g f)
+returns c = λ file a g f q. rw (c .before .before .ins .given .1) (c .load .ensures _ g f)
 
 returns-2 : tie.Need-returns-2
-returns-2 c = λ file n a g f q. rw (c .before .before .ins2 .given .1) (c .build .ensures file n _ a g f)
+returns-2 c =
+    λ file a g f q. rw (c .before .before .before .ins2 .given .1, build-rule)
+    (c .make .ensures _ g f _ _ (c .before .constructor-signature .ensures file _ a))
 
 returns-3 : tie.Need-returns-3
-returns-3 c = λ file n a g f q. rw (c .before .before .ins3 .given .1) (c .call .ensures file n _ a g f)
+returns-3 c =
+    λ file a g f q. rw (c .before .before .before .ins3 .given .1, call-rule)
+    (c .make2 .ensures _ g f _ _ (c .before .function-signature .ensures file _ a))
 
 returns-4 : tie.Need-returns-4
-returns-4 c = λ file n a g f q. rw (c .before .before .ins4 .given .1) (c .branch .ensures file n _ a g f)
+returns-4 c =
+    λ file a g f q. rw (c .before .before .before .ins4 .given .1, branch-rule)
+    (c .branch .ensures _ g f _ (c .before .constructor-signature2 .ensures file _ a))
 
 returns-5 : tie.Need-returns-5
-returns-5 c = λ file n a g f q. rw (c .before .enum-told .given .1) (c .finish .ensures _ g f _ q)
+returns-5 c = λ file a g f q. rw (c .before .enum-told .given .1) (c .finish .ensures _ g f _ q)
 
 returns-6 : tie.Need-returns-6
-returns-6 c = λ file n a g f q. rw (c .before .enum-told2 .given .1) (stop-says _ g f _ _ (c .ends .ensures) (c .before .before .before .pre .1))
+returns-6 c =
+    λ file a g f q. rw (c .before .enum-told2 .given .1) (stop-says _ g f _ _ (c .ends .ensures) (c .before .before .before .pre .1))
 
 pub type-step-spec : {M : Type 1} → statement M
 type-step-spec =
@@ -65,10 +95,13 @@ type-step-spec =
     enum-known-ins
     load-requires
     enum-known-ins-2
-    build-requires
+    constructor-signature-requires
+    make-requires
     enum-known-ins-3
-    call-requires
+    function-signature-requires
+    make-requires-2
     enum-known-ins-4
+    constructor-signature-requires-2
     branch-requires
     enum-told
     finish-requires

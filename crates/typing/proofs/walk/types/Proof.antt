@@ -4,18 +4,18 @@ use Prim.Native.Nat.{_-_}
 use native.Mathlib.Omega.{arith}
 use borrow.Author.Needs.{needs}
 use Rattle.rules.specs.Container.{payload}
-use Rattle.rules.specs.Records.{programOf}
+use Rattle.rules.specs.Records.{programIn}
 use Rattle.rules.specs.Types.{typesOf, typesRight}
 use Rattle.program.proofs.LayoutLaws.{atFunction, functions-few, functions-pass}
-use Rattle.program.proofs.PassLaws.{Passing, pass-first, pass-stop, pass-next, pass-end, told-as}
+use Rattle.rules.proofs.PassLaws.{Passing, pass-first, pass-stop, pass-next, pass-end, told-as}
 use Rattle.typing.proofs.walk.types.Statement.{statement}
 use Rattle.typing.proofs.walk.types.Tie as tie
 
 abbrev Inv-loop : tie.InvT-loop
-Inv-loop program n header constructors functions m g₀ g = Passing (atFunction (typesOf (programOf (payload program))) (payload program)) m g
+Inv-loop file header constructors functions m g₀ g = Passing (atFunction (typesOf (programIn file)) (payload file)) m g
 
 abbrev μ-loop : tie.MeasureT-loop
-μ-loop program n header constructors functions m g₀ g = m - g
+μ-loop file header constructors functions m g₀ g = m - g
 
 cast-m : tie.Need-cast-m Inv-loop μ-loop
 cast-m c = search needs
@@ -24,30 +24,49 @@ loop-holds : tie.Need-loop-holds Inv-loop μ-loop
 loop-holds c = pass-first
 
 types-of-requires : tie.Need-types-of-requires Inv-loop μ-loop
-types-of-requires c κs = let p = c .before .before .before .before .pre in (record { program = p .program; bytes = λ k. omega (arith, c .before .before .before .shared-slice-known .given k); constructor = p .constructor; function = p .function }, p .flow, c .loop-test .taken)
+types-of-requires c κs =
+    let at-shared-slice-known = c .before .before .before in
+    let start = at-shared-slice-known .before in (
+      start .pre .0,
+      record { tabled = start .pre .1; bytes = λ k. omega (arith, at-shared-slice-known .shared-slice-known .given k) },
+      c .loop-test .taken,
+    )
 
 enum-known-found : tie.Need-enum-known-found Inv-loop μ-loop
 enum-known-found c = search needs
 
 returns : tie.Need-returns Inv-loop μ-loop
 unfolding typesRight
-returns c = pass-stop (c .before .before .before .before .before .loop .inv) (c .before .before .before .before .loop-test .taken) (told-as (c .before .before .before .types-of .ensures) (c .before .found .given .1)) ∙ sym (functions-pass (c .before .before .before .before .before .before .before .before .pre .program .1) (typesOf (programOf _)))
+returns c =
+    let at-found = c .before in
+    let at-types-of = at-found .before .before in
+    let at-loop-test = at-types-of .before in
+    let at-loop = at-loop-test .before in
+    let start = at-loop .before .before .before in
+    pass-stop (at-loop .loop .inv) (at-loop-test .loop-test .taken) (told-as (at-types-of .types-of .ensures) (at-found .found .given .1))
+    ∙ sym (functions-pass (start .pre .1 .headed) (typesOf (programIn _)))
 
 enum-told : tie.Need-enum-told Inv-loop μ-loop
 enum-told c = search needs
 
 add-g : tie.Need-add-g Inv-loop μ-loop
-add-g c = omega (arith, functions-few (c .before .before .before .before .before .before .before .pre .program .1))
+add-g c = omega (arith, functions-few (c .before .before .before .before .before .before .before .pre .1 .headed))
 
 loop-less : tie.Need-loop-less Inv-loop μ-loop
 loop-less c = omega arith
 
 loop-again : tie.Need-loop-again Inv-loop μ-loop
-loop-again c = pass-next (c .before .before .before .before .loop .inv) (c .before .before .before .loop-test .taken) (told-as (c .before .before .types-of .ensures) (c .enum-told .given .1))
+loop-again c =
+    let at-types-of = c .before .before in
+    let at-loop-test = at-types-of .before in
+    let at-loop = at-loop-test .before in
+    pass-next (at-loop .loop .inv) (at-loop-test .loop-test .taken) (told-as (at-types-of .types-of .ensures) (c .enum-told .given .1))
 
 returns-2 : tie.Need-returns-2 Inv-loop μ-loop
 unfolding typesRight
-returns-2 c = pass-end (c .before .loop .inv) (c .loop-test .left) ∙ sym (functions-pass (c .before .before .before .before .pre .program .1) (typesOf (programOf _)))
+returns-2 c =
+    pass-end (c .before .loop .inv) (c .loop-test .left)
+    ∙ sym (functions-pass (c .before .before .before .before .pre .1 .headed) (typesOf (programIn _)))
 
 pub types-spec : {M : Type 1} → statement M
 types-spec =

@@ -5,27 +5,31 @@ use borrow.Author.Needs.{needs}
 use Rattle.rules.specs.Container.{payload}
 use Rattle.rules.specs.Records.{headOffset}
 use Rattle.program.proofs.LayoutLaws.{functions-few}
-use Rattle.typing.proofs.CodeLaws.{code-there, code-short, code-here}
-use Rattle.typing.proofs.SignatureLaws.{function-small, function-there, function-signature, flow-passed, own-result, own-start}
-use Rattle.typing.proofs.StackLaws.{empty-height}
+use Rattle.tables.proofs.CodeLaws.{code-there, code-short, code-here, code-read, base-small}
+use Rattle.tables.proofs.TableLaws.{row-there}
+use Rattle.typing.proofs.SignatureLaws.{function-small, function-signature, flow-passed, own-result, own-start}
+use Rattle.operands.proofs.StackLaws.{empty-height}
 use Rattle.typing.proofs.TypeWalk.{Typing, typing-start, here-sound, here-aims, typing-wrong, typing-room, typing-next, typing-end}
 use Rattle.typing.proofs.walk.types_of.Statement.{statement}
 use Rattle.typing.proofs.walk.types_of.Tie as tie
 
 abbrev Inv-loop : tie.InvT-loop
-Inv-loop program n header constructors functions g signature code last waiting₀ k₀ waiting k = Typing (payload program) n (headOffset (payload program) g) g code k waiting
+Inv-loop file header constructors functions g signature code last waiting₀ k₀ waiting k =
+    Typing (payload file) (headOffset (payload file) g) g code k waiting
 
 abbrev μ-loop : tie.MeasureT-loop
-μ-loop program n header constructors functions g signature code last waiting₀ k₀ waiting k = code .last - k
+μ-loop file header constructors functions g signature code last waiting₀ k₀ waiting k = code .last - k
 
 mul-row : tie.Need-mul-row Inv-loop μ-loop
-mul-row c = omega (arith, functions-few (c .before .pre .0 .program .1), c .before .pre .2)
+mul-row c = omega (arith, functions-few (c .before .pre .1 .tabled .headed), c .before .pre .2)
 
 element-copy-out-row : tie.Need-element-copy-out-row Inv-loop μ-loop
-element-copy-out-row c = omega (arith, functions-few (c .before .pre .0 .program .1), c .before .pre .2)
+element-copy-out-row c = omega (arith, functions-few (c .before .pre .1 .tabled .headed), c .before .pre .2)
 
 signature-in-requires : tie.Need-signature-in-requires Inv-loop μ-loop
-signature-in-requires c κs = function-small (c .before .before .pre .0) (c .before .before .args .g) (c .before .before .pre .2)
+signature-in-requires c κs =
+    let start = c .before .before in
+    function-small (start .pre .1) (start .args .g) (start .pre .2)
 
 code-of-requires : tie.Need-code-of-requires Inv-loop μ-loop
 code-of-requires c κs = search needs
@@ -34,25 +38,44 @@ empty-requires : tie.Need-empty-requires Inv-loop μ-loop
 empty-requires c κs = search needs
 
 push-arguments-requires : tie.Need-push-arguments-requires Inv-loop μ-loop
-push-arguments-requires c κs = let few = function-signature (c .before .before .before .before .before .pre .0) (c .before .before .before .before .before .args .g) (c .before .before .before .before .before .pre .2) (c .before .before .signature-in .ensures) .1 in (few, omega (arith, empty-height (c .empty .ensures)))
+push-arguments-requires c κs =
+    let at-signature-in = c .before .before in
+    let start = at-signature-in .before .before .before in
+    let few = function-signature (start .pre .1) (start .args .g) (start .pre .2) (at-signature-in .signature-in .ensures) .1 in
+    (few, omega (arith, empty-height (c .empty .ensures)))
 
 array-set-from-waiting : tie.Need-array-set-from-waiting Inv-loop μ-loop
 array-set-from-waiting c = omega arith
 
 loop-holds : tie.Need-loop-holds Inv-loop μ-loop
-loop-holds c = typing-start _ _ _ _ _ (code-there _ (c .before .before .before .before .before .before .pre .0 .program .1 .opened) (function-there (c .before .before .before .before .before .before .pre .0) (c .before .before .before .before .before .before .args .g) (c .before .before .before .before .before .before .pre .2)) (c .before .before .code-of .ensures)) (flow-passed (c .before .before .before .before .before .before .pre .0 .program .1) (c .before .before .before .before .before .before .pre .1) (c .before .before .before .before .before .before .args .g) (c .before .before .before .before .before .before .pre .2) .1) (c .before .empty .result) (c .push-arguments .result) (own-start _ _ (function-signature (c .before .before .before .before .before .before .pre .0) (c .before .before .before .before .before .before .args .g) (c .before .before .before .before .before .before .pre .2) (c .before .before .before .signature-in .ensures) .0) (c .before .empty .ensures) (c .push-arguments .ensures))
+loop-holds c =
+    let at-empty = c .before in
+    let at-code-of = at-empty .before in
+    let at-signature-in = at-code-of .before in
+    let start = at-signature-in .before .before .before in
+    typing-start _ _ _ _ (code-there _ (start .pre .1 .tabled .headed .parsed .verified)
+    (row-there (start .pre .1 .tabled .headed) (start .pre .1 .tabled .function) (start .args .g) (start .pre .2))
+    (at-code-of .code-of .ensures)) (flow-passed (start .pre .1 .tabled .headed) (start .pre .0 .flow) (start .args .g)
+    (start .pre .2) .1) (at-empty .empty .result) (c .push-arguments .result)
+    (own-start _ _ (function-signature (start .pre .1) (start .args .g) (start .pre .2) (at-signature-in .signature-in .ensures) .0)
+    (at-empty .empty .ensures) (c .push-arguments .ensures))
 
 add-i : tie.Need-add-i Inv-loop μ-loop
 add-i c = omega (arith, code-short (c .before .loop .inv .code))
 
-mul-instruction : tie.Need-mul-instruction Inv-loop μ-loop
-mul-instruction c = omega (arith, code-short (c .before .loop .inv .code))
-
-add-instruction : tie.Need-add-instruction Inv-loop μ-loop
-add-instruction c = omega (arith, code-here (c .before .before .loop .inv .code) (c .before .before .loop .k) (c .before .loop-test .taken), c .before .before .loop .inv .code .small)
+instruction-offset-requires : tie.Need-instruction-offset-requires Inv-loop μ-loop
+instruction-offset-requires c κs =
+    (omega (arith, base-small (c .before .loop .inv .code)), omega (arith, code-short (c .before .loop .inv .code)))
 
 instruction-requires : tie.Need-instruction-requires Inv-loop μ-loop
-instruction-requires c κs = (c .before .before .before .before .before .before .before .before .before .pre .0 .program .1 .opened, code-here (c .before .before .loop .inv .code) (c .before .before .loop .k) (c .before .loop-test .taken))
+instruction-requires c κs =
+    let at-loop-test = c .before in
+    let at-loop = at-loop-test .before in
+    let start = at-loop .before .before .before .before .before .before .before in (
+      start .pre .1 .tabled .headed .parsed .verified,
+      code-here (at-loop .loop .inv .code) (at-loop .loop .k)
+          (c .instruction-offset .ensures) (at-loop-test .loop-test .taken),
+    )
 
 mul-here : tie.Need-mul-here Inv-loop μ-loop
 mul-here c = omega (arith, code-short (c .before .before .before .loop .inv .code))
@@ -61,17 +84,54 @@ array-copy-out-here : tie.Need-array-copy-out-here Inv-loop μ-loop
 array-copy-out-here c = omega (arith, code-short (c .before .before .before .loop .inv .code))
 
 type-step-requires : tie.Need-type-step-requires Inv-loop μ-loop
-type-step-requires c κs = ((_, _, c .before .before .before .before .before .before .before .before .before .before .before .pre .0), here-sound _ _ _ _ _ (c .before .before .before .before .loop .inv) (c .before .before .before .loop-test .taken), omega (arith, code-short (c .before .before .before .before .loop .inv .code)), here-aims _ _ _ _ _ (c .before .before .before .before .loop .inv) (c .before .before .before .loop-test .taken) (c .before .instruction .ensures))
+type-step-requires c κs =
+    let at-instruction = c .before in
+    let at-instruction-offset = at-instruction .before in
+    let at-loop-test = at-instruction-offset .before in
+    let at-loop = at-loop-test .before in
+    let start = at-loop .before .before .before .before .before .before .before in (
+      (_, start .pre .1),
+      here-sound _ _ _ _ (at-loop .loop .inv) (at-loop-test .loop-test .taken),
+      omega
+          (arith, code-short (at-loop .loop .inv .code)),
+      here-aims _ _ _ _ (at-loop .loop .inv) (at-loop-test .loop-test .taken)
+          (code-read (at-loop .loop .inv .code) (at-loop .loop .k) (at-instruction-offset .instruction-offset .ensures)
+          (at-instruction .instruction .ensures)),
+    )
 
 returns : tie.Need-returns Inv-loop μ-loop
-returns c = typing-wrong _ _ _ _ _ (c .before .before .before .before .before .before .loop .inv) (c .before .before .before .before .before .loop-test .taken) (c .before .before .before .instruction .ensures) (c .before .type-step .ensures _ _ (c .before .before .before .before .before .before .before .before .before .before .before .before .before .pre .0) _ _ (own-result _ _ (function-signature (c .before .before .before .before .before .before .before .before .before .before .before .before .before .pre .0) (c .before .before .before .before .before .before .before .before .before .before .before .before .before .args .g) (c .before .before .before .before .before .before .before .before .before .before .before .before .before .pre .2) (c .before .before .before .before .before .before .before .before .before .before .signature-in .ensures) .0))) (c .if1 .taken)
+returns c =
+    let at-type-step = c .before in
+    let at-instruction = at-type-step .before .before in
+    let at-instruction-offset = at-instruction .before in
+    let at-loop-test = at-instruction-offset .before in
+    let at-loop = at-loop-test .before in
+    let at-signature-in = at-loop .before .before .before .before in
+    let start = at-signature-in .before .before .before in
+    typing-wrong _ _ _ _ (at-loop .loop .inv) (at-loop-test .loop-test .taken)
+    (code-read (at-loop .loop .inv .code) (at-loop .loop .k) (at-instruction-offset .instruction-offset .ensures)
+    (at-instruction .instruction .ensures)) (at-type-step .type-step .ensures _ (start .pre .1) _ _
+    (own-result _ _ (function-signature (start .pre .1) (start .args .g) (start .pre .2) (at-signature-in .signature-in .ensures) .0)))
+    (c .if1 .taken)
 
 -- both slots that are stored to are those of instructions
 slots : (c : tie.Else1 Inv-loop μ-loop) → (c .before .type-step .result .on ≤ 256) × (c .before .type-step .result .to ≤ 256)
 slots c =
-    let r = typing-room _ _ _ _ _ (c .before .before .before .before .before .before .loop .inv) (c .before .before .before .before .before .loop-test .taken) (c .before .before .before .instruction .ensures)
-    (c .before .type-step .ensures _ _ (c .before .before .before .before .before .before .before .before .before .before .before .before .before .pre .0) _ _ (own-result _ _ (function-signature (c .before .before .before .before .before .before .before .before .before .before .before .before .before .pre .0) (c .before .before .before .before .before .before .before .before .before .before .before .before .before .args .g) (c .before .before .before .before .before .before .before .before .before .before .before .before .before .pre .2) (c .before .before .before .before .before .before .before .before .before .before .signature-in .ensures) .0))) (c .if1 .left) in
-    (omega (arith, r .0, code-short (c .before .before .before .before .before .before .loop .inv .code)), omega (arith, r .1, code-short (c .before .before .before .before .before .before .loop .inv .code)))
+    let at-step = c .before in
+    let at-instruction = at-step .before .before in
+    let at-offset = at-instruction .before in
+    let at-test = at-offset .before in
+    let at-loop = at-test .before in
+    let at-signature = at-loop .before .before .before .before in
+    let start = at-signature .before .before .before in
+    let own = own-result _ _ (function-signature (start .pre .1) (start .args .g) (start .pre .2) (at-signature .signature-in .ensures) .0)
+    in
+    let read = code-read (at-loop .loop .inv .code) (at-loop .loop .k) (at-offset .instruction-offset .ensures)
+    (at-instruction .instruction .ensures) in
+    let r = typing-room _ _ _ _ (at-loop .loop .inv) (at-test .loop-test .taken) read
+    (at-step .type-step .ensures _ (start .pre .1) _ _ own) (c .if1 .left) in
+    let short = code-short (at-loop .loop .inv .code) in
+    (omega (arith, r .0), omega (arith, r .1))
 
 mul-waiting : tie.Need-mul-waiting Inv-loop μ-loop
 mul-waiting c = omega (arith, slots (c .before))
@@ -92,10 +152,23 @@ loop-less : tie.Need-loop-less Inv-loop μ-loop
 loop-less c = omega arith
 
 loop-again : tie.Need-loop-again Inv-loop μ-loop
-loop-again c = typing-next _ _ _ _ _ (c .before .before .before .before .before .before .before .loop .inv) (c .before .before .before .before .before .before .loop-test .taken) (c .before .before .before .before .instruction .ensures) (c .before .before .type-step .ensures _ _ (c .before .before .before .before .before .before .before .before .before .before .before .before .before .before .pre .0) _ _ (own-result _ _ (function-signature (c .before .before .before .before .before .before .before .before .before .before .before .before .before .before .pre .0) (c .before .before .before .before .before .before .before .before .before .before .before .before .before .before .args .g) (c .before .before .before .before .before .before .before .before .before .before .before .before .before .before .pre .2) (c .before .before .before .before .before .before .before .before .before .before .before .signature-in .ensures) .0))) (c .before .if1 .left)
+loop-again c =
+    let at-if1 = c .before in
+    let at-type-step = at-if1 .before in
+    let at-instruction = at-type-step .before .before in
+    let at-instruction-offset = at-instruction .before in
+    let at-loop-test = at-instruction-offset .before in
+    let at-loop = at-loop-test .before in
+    let at-signature-in = at-loop .before .before .before .before in
+    let start = at-signature-in .before .before .before in
+    typing-next _ _ _ _ (at-loop .loop .inv) (at-loop-test .loop-test .taken)
+    (code-read (at-loop .loop .inv .code) (at-loop .loop .k) (at-instruction-offset .instruction-offset .ensures)
+    (at-instruction .instruction .ensures)) (at-type-step .type-step .ensures _ (start .pre .1) _ _
+    (own-result _ _ (function-signature (start .pre .1) (start .args .g) (start .pre .2) (at-signature-in .signature-in .ensures) .0)))
+    (at-if1 .if1 .left)
 
 returns-2 : tie.Need-returns-2 Inv-loop μ-loop
-returns-2 c = typing-end _ _ _ _ _ (c .before .loop .inv) (c .loop-test .left)
+returns-2 c = typing-end _ _ _ _ (c .before .loop .inv) (c .loop-test .left)
 
 pub types-of-spec : {M : Type 1} → statement M
 types-of-spec =
@@ -112,8 +185,7 @@ types-of-spec =
     array-set-from-waiting
     loop-holds
     add-i
-    mul-instruction
-    add-instruction
+    instruction-offset-requires
     instruction-requires
     mul-here
     array-copy-out-here

@@ -1,0 +1,2 @@
+pub mod DeclareLaws
+pub mod BoundLaws

@@ -1,0 +1,3 @@
+pub mod PackLaws
+pub mod RoundLaws
+pub mod Round

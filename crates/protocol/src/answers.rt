@@ -1,0 +1,113 @@
+// The answer lines.
+use crate::hex;
+use crate::lent;
+use crate::lent::Left;
+use libc::STDOUT_FILENO;
+use report::line::write_verdict;
+use rules::answers::Answer;
+use rules::answers::Ending;
+use rules::answers::Length;
+use rules::answers::Reason;
+use rules::answers::Verdict;
+
+fn text(bytes: &[u8]) {
+    io::write_all(STDOUT_FILENO, bytes);
+}
+
+fn number(n: u64) {
+    text(b" ");
+    io::print_decimal(STDOUT_FILENO, n);
+}
+
+pub fn bad_command() {
+    text(b"bad command\n");
+}
+
+// A call wrote where it must not, or left tables half cleared.
+fn wrong() {
+    text(b"tables wrong\n");
+}
+
+fn refused(reason: Reason) {
+    let told = report::numbers_of(reason);
+    text(b"refused");
+    number(told.number as u64);
+    number(told.first as u64);
+    number(told.second as u64);
+}
+
+pub fn checked(verdict: Verdict) {
+    let mut line = [0u8; 72];
+    let n = write_verdict(verdict, &mut line);
+    text(&line[..n]);
+}
+
+fn length(answer: Length) -> usize {
+    match answer {
+        Length::Bytes(n) => n,
+        Length::Refused(_) => 0,
+    }
+}
+
+// The answer of pack or unpack, with what it wrote to the output.
+pub fn wrote(name: &[u8], answer: Length, out: &[u8]) {
+    let n = length(answer);
+    if out.len() < n {
+        wrong();
+        return;
+    }
+    if !lent::kept(&out[n..]) {
+        wrong();
+        return;
+    }
+    match answer {
+        Length::Bytes(_) => {
+            text(name);
+            hex::write(&out[0..n]);
+        }
+        Length::Refused(reason) => refused(reason),
+    }
+    text(b"\n");
+}
+
+fn result_length(ending: Ending) -> usize {
+    match ending {
+        Ending::Result(n) => n,
+        Ending::Aborted => 0,
+        Ending::Refused(_) => 0,
+    }
+}
+
+fn ended(answer: Answer, result: &[u8], begun: u64) {
+    let ending = answer.ending;
+    match ending {
+        Ending::Result(_) => {
+            text(b"figure ");
+            hex::write(result);
+        }
+        Ending::Aborted => text(b"gaveup"),
+        Ending::Refused(reason) => refused(reason),
+    }
+    number(answer.steps as u64);
+    number(begun);
+    text(b"\n");
+}
+
+// The answer of run, with what it left in its tables and wrote to the output.
+pub fn ran(answer: Answer, left: Left, out: &[u8]) {
+    let ending = answer.ending;
+    let n = result_length(ending);
+    if out.len() < n {
+        wrong();
+        return;
+    }
+    if !lent::kept(&out[n..]) {
+        wrong();
+        return;
+    }
+    match left {
+        Left::Kept | Left::Either => ended(answer, &out[0..n], 0),
+        Left::Zeroed => ended(answer, &out[0..n], 1),
+        Left::Wrong => wrong(),
+    }
+}

@@ -1,0 +1,65 @@
+-- A function's code in the payload, as the passes read it: an instruction at each offset, and a walk over them.
+use mathlib.Core.Path.{_≡_, refl, ap, _∙_}
+use mathlib.Core.List.{List}
+use Prim.Native.Nat.{ℕ, _+_, _≤_, _<_}
+use native.Mathlib.Omega.{arith}
+use native.Mathlib.Nat.{sub-zero}
+use lib.ListN.{length, getD}
+use Rattle.rules.specs.declared.records.Instruction.{Instruction}
+use Rattle.rules.specs.Base.{Tried, only, wordAt, numbered}
+use Rattle.rules.specs.There.{FunctionThere}
+use Rattle.rules.specs.Established.{Verified}
+use Rattle.rules.specs.Container.{payload}
+use Rattle.rules.specs.Records.{instructionAt, instructionOf, codeOffset, headOffset, instructionOffset, functionOf}
+use Rattle.rules.specs.Walk.{Arrow, walk}
+use Rattle.rules.proofs.NumberedLaws.{numbered-length}
+use Rattle.tables.specs.Tables.{RowThere}
+use Rattle.tables.specs.declared.code.Code.{Code}
+use Rattle.rules.proofs.WalkingLaws.{rest}
+
+-- instruction i, from 0, of code at an offset
+abbrev pub codeAt : List ℕ → ℕ → ℕ → Instruction
+codeAt bytes base i = instructionOf (instructionAt bytes (instructionOffset base i))
+
+-- the code of the function whose head stands at an offset of a payload
+pub record CodeThere (bytes : List ℕ) (at : ℕ) (c : Code) : Type 0 where
+  pub there : FunctionThere bytes at
+  pub small : length bytes ≤ 32256
+  pub base : c .base ≡ codeOffset bytes at
+  pub last : c .last ≡ wordAt bytes (at + 8)
+
+pub code-there : {file : List ℕ} (g : ℕ) {row : List ℕ} {c : Code} → Verified file → RowThere (payload file) g row
+    → (c .base ≡ getD row 7 0) × (c .last ≡ getD row 8 0) → CodeThere (payload file) (headOffset (payload file) g) c
+code-there g o r q = record {
+  there = r .there;
+  small = o .small;
+  base = q .0 ∙ ap (λ (x : List ℕ). getD x 7 0) (r .is);
+  last = q .1 ∙ ap (λ (x : List ℕ). getD x 8 0) (r .is);
+}
+
+module _ {bytes : List ℕ} {at : ℕ} {c : Code} (t : CodeThere bytes at c) where
+  pub code-short : c .last ≤ 256
+  code-short = omega (arith, t .last, t .there .short-code)
+
+  -- instruction k, from 0, at its offset x as the code has it
+  pub code-here : {x : ℕ} (k : ℕ) → x ≡ instructionOffset (c .base) k → k < c .last → x + 4 ≤ length bytes
+  code-here k e h = omega (arith, t .base, t .there .instruction k (omega (arith, t .last)) .0)
+
+  pub code-read : {x : ℕ} (k : ℕ) {ins : Instruction} → x ≡ instructionOffset (c .base) k → ins ≡ instructionOf (instructionAt bytes x)
+      → ins ≡ codeAt bytes (c .base) k
+  code-read k e q = q ∙ ap (λ (x : ℕ). instructionOf (instructionAt bytes x)) e
+
+  pub base-small : c .base ≤ 32256
+  base-small = omega (arith, code-here 0 refl (omega (arith, t .last, t .there .some-code)), t .small)
+
+  pub code-is : functionOf bytes at .code ≡ numbered (codeAt bytes (c .base)) 0 (c .last)
+  unfolding functionOf
+  code-is = rw (t .base, t .last)
+
+  pub code-length : length (functionOf bytes at .code) ≡ c .last
+  code-length = ap length code-is ∙ numbered-length (codeAt bytes (c .base)) (c .last) 0
+
+  -- the walk over the function's code
+  pub code-walk : {S : Type 0} (rule : ℕ → Instruction → List S → Tried (List (Arrow S))) (start : List (Arrow S))
+      → rest rule (codeAt bytes (c .base)) (c .last) 0 start ≡ only (walk rule 1 start (functionOf bytes at .code))
+  code-walk rule start = rw (code-is, sub-zero)
