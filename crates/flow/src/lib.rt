@@ -1,16 +1,18 @@
 // The flow pass, 7: where the paths of a function's code lead.
 ghost use mathlib.Core.Path.{_≡_};
-ghost use mathlib.Core.List.{List};
-ghost use mathlib.Core.Bool.{Bool};
-ghost use Prim.Native.Nat.{ℕ, _+_, _≤_, _<_};
+ghost use mathlib.Core.List.{[], _∷_};
+ghost use mathlib.Core.Option.{Option};
+ghost use mathlib.Core.Bool.{Bool, false, _&&_};
+ghost use Prim.Native.Nat.{ℕ, suc, _≤_};
+ghost use lib.Dec.{ltb, eqb};
 ghost use Rattle.rules.specs.Answers.{toldCheck};
-ghost use Rattle.rules.specs.Base.{only};
+ghost use Rattle.rules.specs.Base.{found};
 ghost use Rattle.rules.specs.Container.{payload};
-ghost use Rattle.rules.specs.Flow.{flowOn, flowFrom, flowRule, flowOf, flowRight};
+ghost use Rattle.rules.specs.Flow.{passing, leavesRight, flowOf, flowRight};
 ghost use Rattle.rules.specs.Established.{Verified, Headed};
-ghost use Rattle.rules.specs.Records.{programIn, functionIn};
+ghost use Rattle.rules.specs.Records.{programIn, functionIn, orElse};
 ghost use Rattle.tables.specs.Tables.{FunctionRows, RowThere};
-ghost use Rattle.flow.specs.FlowSteps.{arrivalsOf, joinOf, nothing, FlowSays};
+ghost use Rattle.flow.specs.FlowSteps.{Waits, joinOf, nothing, FlowSays};
 use rules::answers::Checked;
 use rules::answers::Place;
 use rules::answers::Reason;
@@ -53,7 +55,7 @@ fn ends(wrong: bool) -> FlowStep
 
 // "Any instruction but return and stop has one after it".
 fn onward(i: usize, last: usize, past: bool) -> FlowStep
-    ensures { λ r. ⌜ FlowSays last i r (λ g. flowOn g last i past) ⌝ }
+    ensures { λ r. ⌜ FlowSays last r (ltb i last) (found ((suc i, past) ∷ [])) ⌝ }
 {
     if i >= last {
         return ends(true);
@@ -69,7 +71,8 @@ fn onward(i: usize, last: usize, past: bool) -> FlowStep
 // "A branch target lies in i + 2 to L"; "No branch follows a build or call on its path".
 fn fork(i: usize, last: usize, b: u16, past: bool) -> FlowStep
     requires { ⌜ i ≤ 256 ⌝ }
-    ensures { λ r. ⌜ ((c : ℕ) → FlowSays last i r (λ g. flowFrom g last i (Instruction.Branch c b) past)) ⌝ }
+    ensures { λ r. ⌜ ((c : ℕ)
+        → FlowSays last r (leavesRight last i (Instruction.Branch c b) past) (passing i (Instruction.Branch c b) past)) ⌝ }
 {
     let to = b as usize;
     if to < i + 2 {
@@ -92,7 +95,8 @@ fn fork(i: usize, last: usize, b: u16, past: bool) -> FlowStep
 // "Counting arrivals from earlier instructions, each instruction from 2 on has exactly one".
 fn flow_step(i: usize, last: usize, ins: Instruction, arrived: u8) -> FlowStep
     requires { ⌜ i ≤ 256 ⌝ }
-    ensures { λ r. ⌜ ((paths : List Bool) → arrived ≡ arrivalsOf paths → FlowSays last i r (λ g. flowRule g last i ins paths)) ⌝ }
+    ensures { λ r. ⌜ ((n : ℕ) (o : Option Bool) → Waits arrived n o
+        → FlowSays last r (eqb n 1 && leavesRight last i ins (orElse o false)) (passing i ins (orElse o false))) ⌝ }
 {
     if arrived == 0 {
         return ends(true);
@@ -114,7 +118,7 @@ fn flow_step(i: usize, last: usize, ins: Instruction, arrived: u8) -> FlowStep
 // The flow of function g, which has this row: a slot for each instruction has what arrives there, and slot 0 what goes nowhere.
 fn flow_of(file: &[u8], g: usize, row: [u16; 9]) -> Checked
     requires { ⌜ Verified (now file) × RowThere (payload (now file)) g row ⌝ }
-    ensures { λ r. ⌜ toldCheck r ≡ only (flowOf g (functionIn (now (file .entry)) g)) ⌝ }
+    ensures { λ r. ⌜ toldCheck r ≡ flowOf g (functionIn (now (file .entry)) g) ⌝ }
 {
     let code = tables::code_of(row);
     let last = code.last;

@@ -1,11 +1,11 @@
 -- What the header and the layout of a parsed file say of its records, and a pass over all constructors or all functions as a check by
 -- number.
-use mathlib.Core.Path.{_≡_, sym, ap, _∙_, subst}
+use mathlib.Core.Path.{_≡_, refl, sym, ap, _∙_, subst}
 use mathlib.Core.List.{List}
 use Prim.Native.Nat.{ℕ, _+_, _≤_, _<_}
 use lib.ListN.{length, getD}
 use Rattle.rules.specs.declared.records.Header.{Header}
-use Rattle.rules.specs.Base.{Tried, Check, only, forEach, each, byteAt}
+use Rattle.rules.specs.Base.{Check, forEach, each, byteAt}
 use Rattle.rules.specs.Container.{payload}
 use Rattle.rules.specs.Program.{Constructor, Function}
 use Rattle.rules.specs.Records.{constructorAt, constructorOffset, headOffset, headerRight, constructorOf, functionOf, programOf}
@@ -17,11 +17,11 @@ use Rattle.rules.proofs.RecordLaws.{records-there}
 use Rattle.program.proofs.OpenLaws.{few-constructors, few-functions}
 
 -- a rule at constructor c, and at function g
-abbrev pub atConstructor : {A : Type 0} → (ℕ → Constructor → Tried A) → List ℕ → ℕ → Check
-atConstructor rule bytes c = only (rule c (constructorOf (constructorAt bytes (constructorOffset c))))
+abbrev pub atConstructor : (ℕ → Constructor → Check) → List ℕ → ℕ → Check
+atConstructor rule bytes c = rule c (constructorOf (constructorAt bytes (constructorOffset c)))
 
-abbrev pub atFunction : {A : Type 0} → (ℕ → Function → Tried A) → List ℕ → ℕ → Check
-atFunction rule bytes g = only (rule g (functionOf bytes (headOffset bytes g)))
+abbrev pub atFunction : (ℕ → Function → Check) → List ℕ → ℕ → Check
+atFunction rule bytes g = rule g (functionOf bytes (headOffset bytes g))
 
 module _ {file : List ℕ} {h : Header} (o : Headed file h) where
   pub headed-records : RecordsThere (payload file)
@@ -52,18 +52,19 @@ module _ {file : List ℕ} {h : Header} (o : Headed file h) where
   function-there g l = headed-records .function g (subst (λ (x : ℕ). g < x) functions-count l)
 
   -- a pass, as the code makes it
-  pub constructors-pass : {A : Type 0} (rule : ℕ → Constructor → Tried A)
+  pub constructors-pass : (rule : ℕ → Constructor → Check)
       → each rule 0 (programIn file .constructors) ≡ forEach (atConstructor rule (payload file)) 0 (h .constructors)
   unfolding programOf
   constructors-pass rule =
-      each-numbered rule (λ c. constructorOf (constructorAt (payload file) (constructorOffset c))) (byteAt (payload file) 2) 0
+      each-numbered rule (λ c. constructorOf (constructorAt (payload file) (constructorOffset c))) (λ i. i) (λ k. refl)
+      (byteAt (payload file) 2) 0
       ∙ ap (forEach (atConstructor rule (payload file)) 0) (sym constructors-count)
 
-  pub functions-pass : {A : Type 0} (rule : ℕ → Function → Tried A)
+  pub functions-pass : (rule : ℕ → Function → Check)
       → each rule 0 (programIn file .functions) ≡ forEach (atFunction rule (payload file)) 0 (h .functions)
   unfolding programOf
   functions-pass rule =
-      each-numbered rule (functionIn file) (byteAt (payload file) 3) 0
+      each-numbered rule (functionIn file) (λ i. i) (λ k. refl) (byteAt (payload file) 3) 0
       ∙ ap (forEach (atFunction rule (payload file)) 0) (sym functions-count)
 
 module _ {file : List ℕ} {h : Header} {heads : List ℕ} (o : LaidOut file h heads) where
@@ -75,6 +76,6 @@ module _ {file : List ℕ} {h : Header} {heads : List ℕ} (o : LaidOut file h h
   function-placed g l = subst (λ (x : ℕ). FunctionThere (payload file) x) (sym (head-placed g l)) (function-there (o .headed) g l)
 
   -- a rule at one function as the code finds it
-  pub function-here : {A : Type 0} (rule : ℕ → Function → Tried A) (g : ℕ) {t : Check} → g < h .functions
-      → only (rule g (functionOf (payload file) (getD heads g 0))) ≡ t → atFunction rule (payload file) g ≡ t
-  function-here rule g l e = ap (λ (x : ℕ). only (rule g (functionOf (payload file) x))) (sym (head-placed g l)) ∙ e
+  pub function-here : (rule : ℕ → Function → Check) (g : ℕ) {t : Check} → g < h .functions
+      → rule g (functionOf (payload file) (getD heads g 0)) ≡ t → atFunction rule (payload file) g ≡ t
+  function-here rule g l e = ap (λ (x : ℕ). rule g (functionOf (payload file) x)) (sym (head-placed g l)) ∙ e

@@ -1,32 +1,36 @@
 -- A program that passes the check: its type and shape tables hold of every instruction at once.
-use mathlib.Core.Path.{_≡_, refl}
-use mathlib.Core.List.{List, [], _∷_}
+use mathlib.Core.Path.{_≡_, refl, sym, ap, _∙_}
+use mathlib.Core.List.{List, _∷_}
 use mathlib.Core.Option.{some}
 use mathlib.Core.Bool.{Bool, true, false, _&&_, _||_}
-use Prim.Native.Nat.{ℕ, zero, suc, _+_, _≤_}
+use Prim.Native.Nat.{ℕ, zero, suc, _≤_}
 use native.Mathlib.Omega.{arith}
-use native.Mathlib.Nat.{le-trans, zero-add}
+use native.Mathlib.Nat.{le-trans, le-of-eq}
 use lib.ListN.{length}
 use lib.Dec.{ltb, eqb}
 use borrow.Author.Tests.{eqb-true}
-use Rattle.rules.specs.Base.{found, all, each}
+use Rattle.rules.specs.Base.{Tried, found, passed, all, each}
 use Rattle.rules.specs.Container.{verify, payload}
 use Rattle.rules.specs.Program.{Constructor, Function, Program, constructor, function}
-use Rattle.rules.specs.Records.{decode}
+use Rattle.rules.specs.Records.{orElse, decode}
 use Rattle.rules.specs.Declarations.{constructorRule, weightRight, declarationsRight, boundsRight}
-use Rattle.rules.specs.Walk.{visited, arrived}
-use Rattle.rules.specs.Flow.{flowRule, flowOf, flowRight}
-use Rattle.rules.specs.Types.{typeRule, typesOf, typesRight}
-use Rattle.rules.specs.Shapes.{Shape, shapeRule, startShape, shapesOf, sizesRight}
+use Rattle.rules.specs.Stacks.{slot}
+use Rattle.rules.specs.declared.records.Instruction.{Instruction}
+use Rattle.rules.specs.Walk.{targets, hits, arrivals, Arrow, rootAt, stateAt, judged}
+use Rattle.rules.specs.Flow.{passing, leavesRight, pastAt, flowRule, flowOf, flowRight}
+use Rattle.rules.specs.Types.{typeRule, typesAt, typesOf, typesRight}
+use Rattle.rules.specs.Shapes.{shapeRule, startShape, shapeAt, sizesOf, sizesRight, Shape}
 use Rattle.rules.specs.Check.{checked}
-use Rattle.rules.specs.Lists.{l[], _l∷_}
-use Rattle.rules.proofs.ListLaws.{none-some, and-right, all-at}
-use Rattle.rules.proofs.TriedLaws.{bind-found, found-inj, required, each-found}
-use Rattle.rules.proofs.WalkLaws.{Walks, walks, walk-all, table-start, table-on}
-use Rattle.rules.proofs.RuleLaws.{flow-once, flow-forward, flow-follows, type-among, shape-among, Low, type-low}
+use Rattle.rules.proofs.ListLaws.{and-right, all-at, all-map}
+use Rattle.rules.proofs.TriedLaws.{bind-found, found-inj, required}
+use Rattle.rules.proofs.EachLaws.{each-from-0}
+use Rattle.rules.proofs.WalkLaws.{count, slot-there, state-stands, along-passed, judged-found, state-all, Tree, root-start}
+use Rattle.rules.proofs.WalkLaws.{state-start, state-leads}
+use Rattle.rules.proofs.RuleLaws.{flow-found, leaves-ahead, type-all, shape-among, Low, type-low, shape-bound}
 use Rattle.rules.proofs.RecordLaws.{DecodedFunction, DecodedConstructor, decoded}
 use Rattle.rules.proofs.Models.{Light}
-use Rattle.rules.proofs.Sound.{AcceptedFn}
+use Rattle.rules.proofs.TypedSound.{Stands, TypedFn}
+use Rattle.rules.proofs.Sound.{SizedFn}
 
 -- the parts of a check that passes
 pub record Passed (bytes : List ℕ) (s : Program) : Type 0 where
@@ -50,25 +54,74 @@ checked-parts bytes s e =
     let same = found-inj (r₉ .2) in
     rw (← same) (record { reads = d .1; declarations = r₅ .1; bounds = r₆ .1; flow = r₇ .1; types = r₈ .1; shapes = r₉ .1 })
 
-module _ (s : Program) (n : ℕ) (f : Function) where
-  accepted-function : length (f .parameters) ≤ 4 → 1 ≤ length (f .code) → {T : List (List Bool)} → flowOf n f ≡ found T
-      → {U : List (List (List ℕ))} → typesOf s n f ≡ found U → {W : List (List Shape)} → shapesOf s n f ≡ found W
-      → AcceptedFn s n f (arrived (found U)) (arrived (found W))
-  unfolding flowOf typesOf shapesOf
-  accepted-function few code eT eU eV =
-      let last = length (f .code) in
-      let w = walks (flowRule n last) (f .code) 1 ((1, false) ∷ []) eT in
-      let t = walks (visited (typeRule s n f)) (f .code) 1 ((1, f .parameters) ∷ []) eU in
-      let h = walks (visited (shapeRule s n f)) (f .code) 1 ((1, startShape f) ∷ []) eV in
-      let follows-t = flow-follows n last (typeRule s n f) (type-among s n f) in
-      let follows-h = flow-follows n last (shapeRule s n f) (shape-among s n f) in
-      record {
-        few = le-trans few (omega arith);
-        type-start = table-start (typeRule s n f) (f .code) follows-t (flow-forward n last) w t (flow-once n last w) code;
-        type-on = table-on (typeRule s n f) (f .code) follows-t (flow-forward n last) w t (flow-once n last w);
-        shape-start = table-start (shapeRule s n f) (f .code) follows-h (flow-forward n last) w h (flow-once n last w) code;
-        shape-on = table-on (shapeRule s n f) (f .code) follows-h (flow-forward n last) w h (flow-once n last w);
-      }
+-- the height stays at most 16 at every state
+pub low-states : (s : Program) (n : ℕ) (f : Function) → length (f .parameters) ≤ 16 → (i : ℕ) (ts : List ℕ) → typesAt s n f i ≡ some ts
+    → length ts ≤ 16
+low-states s n f few i ts h =
+    state-all (typeRule s n f) (rootAt 1 (f .parameters)) (f .code) (λ _ x. Low x)
+    (λ j x e. rw (← root-start (typeRule s n f) (f .parameters) (f .code) j x e .1) few)
+    (λ i ins c x e M r l. type-low s n f i ins x M r l) i ts h
+
+-- every shape has the function's own bound
+pub own-bounds : (s : Program) (n : ℕ) (f : Function) (i : ℕ) (x : Shape) → shapeAt s n f i ≡ some x → x .bound ≡ f .bound
+unfolding startShape
+own-bounds s n f i x h =
+    state-all (shapeRule s n f) (rootAt 1 (startShape f)) (f .code) (λ _ x. x .bound ≡ f .bound)
+    (λ j y e. ap (λ (y : Shape). y .bound) (sym (root-start (shapeRule s n f) (startShape f) (f .code) j y e .1)))
+    (λ i ins c y e M r q. all-map (λ a p. p ∙ q) (shape-bound s n f i ins y M r)) i x h
+
+-- a function whose flow is right
+pub record FlowsRightly (n : ℕ) (f : Function) : Type 0 where
+  pub tree : Tree (f .code)
+  pub each : (i : ℕ) (ins : Instruction) → slot i (f .code) ≡ some ins → flowRule (f .code) n i ins (pastAt (f .code) i) ≡ passed
+
+pub flows-rightly : (n : ℕ) (f : Function) → 1 ≤ length (f .code) → flowOf n f ≡ passed → FlowsRightly n f
+unfolding flowOf
+flows-rightly n f h e = record {
+  tree = record {
+    some-code = h;
+    ahead = λ i ins c. leaves-ahead (length (f .code)) i ins (orElse (pastAt (f .code) i) false) (right i ins c .1);
+    once = λ j lo hi. let c = there-is j (omega arith) hi in right j (c .0) (c .1) .0 lo;
+  };
+  each = every;
+}
+  where
+    every : (i : ℕ) (ins : Instruction) → slot i (f .code) ≡ some ins → flowRule (f .code) n i ins (pastAt (f .code) i) ≡ passed
+    every = along-passed passing (rootAt 1 false) (f .code) (flowRule (f .code) n) .0 e
+
+    right : (i : ℕ) (ins : Instruction) → slot i (f .code) ≡ some ins → (2 ≤ i → arrivals (f .code) i ≡ 1)
+        × (leavesRight (length (f .code)) i ins (orElse (pastAt (f .code) i) false) ≡ true)
+    right i ins c = flow-found (f .code) n i ins (pastAt (f .code) i) (every i ins c)
+
+    there-is : (j : ℕ) → 1 ≤ j → j ≤ length (f .code) → (ins : Instruction) × (slot j (f .code) ≡ some ins)
+    there-is j lo hi = slot-there (f .code) j lo hi
+
+-- the states of a rule that passes hold of every instruction at once
+states-stand : {S : Type 0} (rule : ℕ → Instruction → S → Tried (List (Arrow S))) (x₁ : S) (code : List Instruction) → Tree code
+    → ((i : ℕ) (ins : Instruction) (x : S) (M : List (Arrow S)) → rule i ins x ≡ found M → (j : ℕ) → count j M ≤ hits j (targets i ins))
+    → judged rule (rootAt 1 x₁) code ≡ passed → Stands (stateAt rule (rootAt 1 x₁) code) rule code
+states-stand rule x₁ code tree among e i x h =
+    let c = state-stands rule (rootAt 1 x₁) code i h in
+    let r = judged-found rule (rootAt 1 x₁) code e i (c .3) (c .4) x h in
+    (c .3, c .4, r .0, r .1, state-leads rule x₁ code tree among i (c .3) (c .4) x h (r .0) (r .1))
+
+-- where 4, 7 and 8 hold
+module _ (bytes : List ℕ) {s : Program} (reads : decode bytes ≡ found s) (flow : flowRight s ≡ passed) (types : typesRight s ≡ passed)
+    (n : ℕ) (f : Function) (e : function s n ≡ some f) where
+  function-reads : DecodedFunction bytes f
+  function-reads = all-at n (decoded bytes reads .0) e
+
+  pub function-flows : FlowsRightly n f
+  unfolding flowRight
+  function-flows = flows-rightly n f (function-reads .some-code) (each-from-0 flowOf (s .functions) .0 flow n f e)
+
+  pub types-stand : TypedFn s n f (typesAt s n f)
+  unfolding typesRight typesOf
+  types-stand = record {
+    type-start = state-start (typeRule s n f) (f .parameters) (f .code) (function-reads .some-code);
+    type-on = states-stand (typeRule s n f) (f .parameters) (f .code) (function-flows .tree)
+        (λ i ins x M r j. le-of-eq (type-all s n f i ins x M r j)) (each-from-0 (typesOf s) (s .functions) .0 types n f e);
+  }
 
 module _ {bytes : List ℕ} {s : Program} (P : Passed bytes s) where
   pub decoded-function : (n : ℕ) (f : Function) → function s n ≡ some f → DecodedFunction (payload bytes) f
@@ -82,8 +135,8 @@ module _ {bytes : List ℕ} {s : Program} (P : Passed bytes s) where
   unfolding declarationsRight constructorRule
   weight-right c k e =
       let d = bind-found (each (constructorRule (s .types)) 0 (s .constructors)) _ (P .declarations) in
-      let r = each-found (constructorRule (s .types)) 0 (s .constructors) (d .1) c e in
-      and-right (all (λ t. ltb t (s .types)) (k .result ∷ k .arguments)) (weightRight k) (required _ _ (r .1))
+      let r = each-from-0 (constructorRule (s .types)) (s .constructors) .0 (d .1) c k e in
+      and-right (all (λ t. ltb t (s .types)) (k .result ∷ k .arguments)) (weightRight k) (required _ _ r)
 
   pub light : Light s
   unfolding weightRight
@@ -97,28 +150,21 @@ module _ {bytes : List ℕ} {s : Program} (P : Passed bytes s) where
       one zero z h = eqb-true (k .weight) 0 (or-false (eqb (k .weight) 0) h)
       one (suc m) z h = absurd (omega arith)
 
-  pub accepted : (n : ℕ) (f : Function) → function s n ≡ some f → AcceptedFn s n f (arrived (typesOf s n f)) (arrived (shapesOf s n f))
-  unfolding flowRight typesRight sizesRight
-  accepted n f e =
-      let d = decoded-function n f e in
-      let z : 0 + n ≡ n = zero-add n in
-      let w = each-found flowOf 0 (s .functions) (P .flow) n e in
-      let t = each-found (typesOf s) 0 (s .functions) (P .types) n e in
-      let h = each-found (shapesOf s) 0 (s .functions) (P .shapes) n e in
-      let et : typesOf s n f ≡ found (t .0) = rw z at (t .1) in
-      let eh : shapesOf s n f ≡ found (h .0) = rw z at (h .1) in
-      rw (et, eh) (accepted-function s n f (d .few) (d .some-code) (rw z at (w .1)) et eh)
+  pub flowing : (n : ℕ) (f : Function) → function s n ≡ some f → FlowsRightly n f
+  flowing n f e = function-flows (payload bytes) (P .reads) (P .flow) (P .types) n f e
 
-  pub types-low : (n : ℕ) (f : Function) → function s n ≡ some f → (i : ℕ) (ts : List ℕ) → arrived (typesOf s n f) i ≡ some ts
-      → length ts ≤ 16
-  unfolding typesRight typesOf
-  types-low n f e i ts h =
-      let r = each-found (typesOf s) 0 (s .functions) (P .types) n e in
-      let is : typesOf s n f ≡ found (r .0) = rw (zero-add n) at (r .1) in
-      one (walks (visited (typeRule s n f)) (f .code) 1 ((1, f .parameters) ∷ []) is) i (rw is at h)
-    where
-      one : {T : List (List (List ℕ))} → Walks (visited (typeRule s n f)) 1 ((1, f .parameters) ∷ []) (f .code) T → (i : ℕ)
-          → arrived (found T) i ≡ some ts → length ts ≤ 16
-      one w zero e′ = none-some e′
-      one w (suc d) e′ =
-          walk-all Low (type-low s n f) w (_l∷_ {x = (1, f .parameters)} (le-trans (decoded-function n f e .few) (omega arith)) l[]) d e′
+  pub types-accepted : (n : ℕ) (f : Function) → function s n ≡ some f → TypedFn s n f (typesAt s n f)
+  types-accepted n f e = types-stand (payload bytes) (P .reads) (P .flow) (P .types) n f e
+
+  pub sizes-accepted : (n : ℕ) (f : Function) → function s n ≡ some f → SizedFn s n f (shapeAt s n f)
+  unfolding sizesRight sizesOf
+  sizes-accepted n f e = record {
+    few = le-trans (decoded-function n f e .few) (omega arith);
+    shape-start = state-start (shapeRule s n f) (startShape f) (f .code) (decoded-function n f e .some-code);
+    shape-on = states-stand (shapeRule s n f) (startShape f) (f .code) (flowing n f e .tree) (shape-among s n f)
+        (each-from-0 (sizesOf s) (s .functions) .0 (P .shapes) n f e);
+    shape-own = own-bounds s n f;
+  }
+
+  pub types-low : (n : ℕ) (f : Function) → function s n ≡ some f → (i : ℕ) (ts : List ℕ) → typesAt s n f i ≡ some ts → length ts ≤ 16
+  types-low n f e i ts h = low-states s n f (le-trans (decoded-function n f e .few) (omega arith)) i ts h

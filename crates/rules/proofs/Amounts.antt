@@ -10,10 +10,8 @@ use borrow.Author.Tests.{eqb-true, eq-eqb, ne-eqb}
 use Rattle.rules.specs.Base.{if_then_else_}
 use Rattle.rules.specs.Program.{Constructor, Program, constructor}
 use Rattle.rules.specs.Tree.{Trees, node, nil, cons, fromList}
-use Rattle.rules.specs.Expressions.{Symbol, variable, built, called, Expression, variables, replace, replaceAll}
-use Rattle.rules.specs.Facts.{Plain, PlainAll}
-use Rattle.rules.specs.Lists.{All, l[], _l∷_}
-use Rattle.rules.proofs.FormLaws.{total}
+use Rattle.rules.specs.Expressions.{Symbol, variable, known, built, called, Expression, variables, replace, replaceAll}
+use Rattle.rules.specs.Quasi.{total}
 
 -- 1 at x
 abbrev pub one-at : ℕ → ℕ → ℕ
@@ -32,7 +30,8 @@ module _ (s : Program) (κ : ℕ) (w : ℕ → ℕ) where
   abbrev mutual
     pub amount : Expression → ℕ
     amount (node (variable k) ts) = w k
-    amount (node (built c) ts) = κ * weightOf (constructor s c) + total (amounts ts)
+    amount (node (known c) ts) = κ * weightOf (constructor s c) + total (amounts ts)
+    amount (node (built c) ts) = 0
     amount (node (called g) ts) = 0
 
     pub amounts : Trees Symbol → List ℕ
@@ -56,7 +55,8 @@ module _ (s : Program) (κ : ℕ) (w : ℕ → ℕ) (k : ℕ) (e′ : Expression
         one : (b : Bool) → amount s κ w (if b then e′ else node (variable j) ts) ≤ w j + (if b then 1 else 0) * amount s κ w e′
         one true = omega arith
         one false = omega arith
-    replace-amount (node (built c) ts) = omega (arith, replace-amounts ts)
+    replace-amount (node (known c) ts) = omega (arith, replace-amounts ts)
+    replace-amount (node (built c) ts) = zero-le
     replace-amount (node (called g) ts) = zero-le
 
     replace-amounts : (ts : Trees Symbol) → total (amounts s κ w (replaceAll k e′ ts)) ≤ total (amounts s κ w ts) + total (amounts s 0
@@ -69,33 +69,7 @@ module _ (s : Program) (κ : ℕ) (w : ℕ → ℕ) (k : ℕ) (e′ : Expression
   replaced-amount [] = zero-le
   replaced-amount (e ∷ es) = omega (arith, replace-amount e, replaced-amount es)
 
-module _ (k : ℕ) (e′ : Expression) (p : Plain e′) where
-  mutual
-    unfolding replace
-
-    pub replace-plain : (e : Expression) → Plain e → Plain (replace k e′ e)
-    replace-plain (node (variable j) ts) h = one (eqb j k)
-      where
-        one : (b : Bool) → Plain (if b then e′ else node (variable j) ts)
-        one true = p
-        one false = tt
-    replace-plain (node (built c) ts) h = replace-plains ts h
-    replace-plain (node (called g) ts) h = absurd h
-
-    replace-plains : (ts : Trees Symbol) → PlainAll ts → PlainAll (replaceAll k e′ ts)
-    replace-plains nil h = tt
-    replace-plains (cons t ts) h = (replace-plain t (h .0), replace-plains ts (h .1))
-
 ---- Fresh variables
-
-pub plain-fresh : (b n : ℕ) → All Plain (variables b n)
-unfolding variables
-plain-fresh b zero = l[]
-plain-fresh b (suc n) = _l∷_ {x = node (variable b) nil} tt (plain-fresh (suc b) n)
-
-pub plain-trees : {es : List Expression} → All Plain es → PlainAll (fromList es)
-plain-trees l[] = tt
-plain-trees (p l∷ ps) = (p, plain-trees ps)
 
 one-at-other : (x k : ℕ) → (k ≡ x → ⊥) → one-at x k ≡ 0
 one-at-other x k h = rw (ne-eqb k x h)

@@ -14,7 +14,7 @@ use Rattle.rules.specs.Program.{Constructor, Function, Program, construc
 use Rattle.rules.specs.declared.records.Alternative.{Alternative}
 use Rattle.rules.specs.Tree.{fromList, made}
 use Rattle.rules.specs.Stacks.{split}
-use Rattle.rules.specs.Expressions.{Symbol, variable, built, called, Expression}
+use Rattle.rules.specs.Expressions.{Symbol, variable, known, built, called, Expression}
 use Rattle.rules.specs.Forms.{Form, variableOnly, substituted, intoBound, builtForm, calledForm, formOf, formsOf, atMost, matches}
 use Rattle.rules.specs.Forms.{covers}
 use Rattle.rules.specs.Shapes.{Shape, coveredAt}
@@ -24,7 +24,7 @@ use Rattle.rules.proofs.ListLaws.{split-parts, all-drop, all-getD, all-
 use Rattle.rules.proofs.ListLaws.{any-all}
 use Rattle.rules.proofs.FormLaws.{all-flatMap}
 use Rattle.rules.proofs.RuleLaws.{shape-covered}
-use Rattle.rules.proofs.Accepted.{Passed, checked-parts, accepted}
+use Rattle.rules.proofs.Accepted.{Passed, checked-parts, sizes-accepted, own-bounds}
 use Rattle.rules.proofs.ProgramLaws.{weight-most, weight-heavy, bound-numbers}
 use Rattle.rules.proofs.Linear.{Tame, shapes-tame}
 use Rattle.rules.proofs.Measures.{coefficient-measure, constant-measure, at-unit, bound-most, at-most-at, all-of-at, WideForm}
@@ -104,12 +104,11 @@ module _ (s : Program) where
   forms-length (e ∷ es) = ap suc (forms-length es)
 
 module _ {bytes : List ℕ} {s : Program} (P : Passed bytes s) (small : All (λ b. b < 256) bytes) where
-  -- what a symbol over four or fewer small entries makes
-  symbol-fits : (y : Symbol) (es : List Expression) → length es ≤ 4 → All (λ e. All (Fits16 15 126735) (formOf s e)) es
-      → All (Fits16 900 7669635) (formOf s (made y es))
-  unfolding formOf builtForm calledForm intoBound
-  symbol-fits (variable k) es few h = variable-fits s k l∷ l[]
-  symbol-fits (built c) es few h = one (constructor s c) refl
+  -- what a constructor over four or fewer small entries makes, and what any symbol does
+  constructor-fits : (c : ℕ) (es : List Expression) → length es ≤ 4 → All (λ e. All (Fits16 15 126735) (formOf s e)) es
+      → All (Fits16 900 7669635) (builtForm (constructor s c) (formsOf s (fromList es)))
+  unfolding builtForm
+  constructor-fits c es few h = one (constructor s c) refl
     where
       ones : (n : ℕ) → All (λ c. c ≤ 15) (replicate n 1)
       ones zero = l[]
@@ -121,6 +120,13 @@ module _ {bytes : List ℕ} {s : Program} (P : Passed bytes s) (small : All (λ 
           made-fits s (replicate (length (k .arguments)) 1) (k .weight) (ones (length (k .arguments)))
           (le-trans (weight-most P small c k e) (omega arith)) (le-trans (le-of-eq (forms-length s es)) few)
           (forms-of s (all-map (λ e q. all-map (λ a z. z .0) q) h)) (forms-of s (all-map (λ e q. all-map (λ a z. (z .1, z .2)) q) h))
+
+  symbol-fits : (y : Symbol) (es : List Expression) → length es ≤ 4 → All (λ e. All (Fits16 15 126735) (formOf s e)) es
+      → All (Fits16 900 7669635) (formOf s (made y es))
+  unfolding formOf calledForm intoBound
+  symbol-fits (variable k) es few h = variable-fits s k l∷ l[]
+  symbol-fits (known c) es few h = constructor-fits c es few h
+  symbol-fits (built c) es few h = constructor-fits c es few h
   symbol-fits (called g) es few h = one (function s g) refl
     where
       one : (o : Option Function) → function s g ≡ o → All (Fits16 900 7669635) (calledForm o (formsOf s (fromList es)))
@@ -138,12 +144,12 @@ cover-fact bytes s small e n f at-f i x h = (entries, makes)
     entries : All (λ e. All (Fits16 15 126735) (formOf s e)) (x .stack)
     entries =
         let P = checked-parts bytes s e in
-        let r = accepted P n f at-f .shape-on i x h in
+        let r = sizes-accepted P n f at-f .shape-on i x h in
         all-true (λ z. covers (intoBound (f .bound) (map (formOf s) (x .parameters))) (formOf s z))
         (λ z c. all-map (λ a q. (q .0, q .1 .0, q .1 .1)) (all-both (form-wide s z)
         (covered-small s (weight-heavy P small) (f .bound) x (shapes-tame P small n f at-f i x h) (bound-numbers P small n f at-f)
         (formOf s z) c)))
-        (x .stack) (shape-covered s n f i (r .0) x (r .3) .0)
+        (x .stack) (rw (own-bounds s n f i x h) at (shape-covered s n f i (r .0) x (r .3) .0))
 
     makes : (k : ℕ) (parts : List Expression × List Expression) → k ≤ 4 → split k (x .stack) ≡ some parts → (symbol : Symbol)
         → All (Fits16 900 7669635) (formOf s (made symbol (parts .1)))

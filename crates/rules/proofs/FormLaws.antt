@@ -16,6 +16,7 @@ use Rattle.rules.specs.Lists.{All, l[], _l∷_, Any, here, there, All2, 
 use Rattle.rules.specs.Values.{dot, valueAt, boundAt}
 use Rattle.rules.proofs.ListLaws.{any-map, any-mapped, all-mapped, all-map, all-append, any-append-left, any-append-right, and-left}
 use Rattle.rules.proofs.ListLaws.{and-right, all-true, any-true, any-all}
+use Rattle.rules.specs.Quasi.{total}
 
 -- a number is at most one of the alternatives; at least each of them
 abbrev pub Under : List ℕ → ℕ → Form → Type 0
@@ -23,10 +24,6 @@ Under sizes n form = Any (λ a. n ≤ valueAt sizes a) form
 
 abbrev pub Over : List ℕ → ℕ → Form → Type 0
 Over sizes n form = All (λ a. valueAt sizes a ≤ n) form
-
-abbrev pub total : List ℕ → ℕ
-total [] = 0
-total (n ∷ ns) = n + total ns
 
 pub under-bound : (sizes : List ℕ) (n : ℕ) {bound : Form} → Under sizes n bound → n ≤ boundAt bound sizes
 under-bound sizes n (here {x} {xs} h) = le-trans h (le-max-left (valueAt sizes x) (boundAt xs sizes))

@@ -3,9 +3,9 @@ use mathlib.Core.Path.{_≡_, refl}
 use mathlib.Core.List.{List, [], _∷_, _++_, map}
 use mathlib.Core.Option.{some}
 use mathlib.Core.Bool.{Bool, true, false}
-use Prim.Native.Nat.{ℕ, zero, suc, _+_, _*_, _≤_, _<_, zero-le}
+use Prim.Native.Nat.{ℕ, suc, _+_, _*_, _≤_, _<_, zero-le}
 use native.Mathlib.Omega.{arith}
-use native.Mathlib.Nat.{le-trans, le-of-eq, mul-le-mul, mul-le-mul-right, zero-add}
+use native.Mathlib.Nat.{le-trans, le-of-eq, mul-le-mul, mul-le-mul-right}
 use lib.ListN.{length}
 use lib.Dec.{leb, eqb}
 use borrow.Author.Tests.{leb-true, leb-false}
@@ -14,20 +14,20 @@ use Rattle.rules.specs.declared.records.Instruction.{Instruction}
 use Rattle.rules.specs.declared.records.Instruction.the-variants.{Load, Build, Call, Branch, Return, Stop}
 use Rattle.rules.specs.Program.{Constructor, Function, Program, arity, constructor, function}
 use Rattle.rules.specs.Tree.{node, toList, made}
-use Rattle.rules.specs.Walk.{Arrow, visited, arrived}
-use Rattle.rules.specs.Expressions.{variable, built, called, Expression, variables, replace}
-use Rattle.rules.specs.Shapes.{Shape, withStack, splitVariable, branchOn, shapeFrom, shapeRule, startShape, shapesOf, sizesRight}
+use Rattle.rules.specs.Walk.{Arrow, rootAt}
+use Rattle.rules.specs.Expressions.{variable, known, built, called, Expression, variables, replace}
+use Rattle.rules.specs.Shapes.{Shape, withStack, splitVariable, branchOn, shapeFrom, shapeRule, startShape, shapeAt}
 use Rattle.rules.specs.Lists.{All, l[], _l∷_}
-use Rattle.rules.specs.Facts.{Plain}
-use Rattle.rules.proofs.ListLaws.{none-some, all-mapped}
+use Rattle.rules.specs.Facts.{Plain, Unmade}
 use Rattle.rules.proofs.RuleLaws.{shape-covered, shape-load, shape-build, shape-call, shape-branch, branch-none, branch-variable}
-use Rattle.rules.proofs.RuleLaws.{branch-built, branch-called}
-use Rattle.rules.proofs.TriedLaws.{found-inj, each-found}
-use Rattle.rules.proofs.Accepted.{Passed, accepted}
+use Rattle.rules.proofs.RuleLaws.{branch-known, branch-built, branch-called}
+use Rattle.rules.proofs.TriedLaws.{found-inj}
+use Rattle.rules.proofs.Accepted.{Passed, sizes-accepted}
 use Rattle.rules.proofs.ProgramLaws.{weight-heavy}
-use Rattle.rules.proofs.WalkLaws.{Brings, Walks, walks, walk-all}
-use Rattle.rules.proofs.Amounts.{one-at, amount, inAll, amounts-list, replaced-amount, replace-plain, plain-fresh, plain-trees}
-use Rattle.rules.proofs.Amounts.{fresh-weightless, fresh-below, fresh-above, fresh-once}
+use Rattle.rules.proofs.WalkLaws.{Brings, state-all, root-start}
+use Rattle.rules.proofs.Amounts.{one-at, amount, inAll, amounts-list, replaced-amount, fresh-weightless, fresh-below, fresh-above}
+use Rattle.rules.proofs.Amounts.{fresh-once}
+use Rattle.rules.proofs.ExpressionLaws.{every-trees, every-fresh, every-replaced, unmade-stays}
 
 ---- Shapes on the way
 
@@ -44,7 +44,7 @@ module _ (s : Program) (heavy : (c : ℕ) (k : Constructor) → constructor s c 
     start-tame : arity f ≤ 16 → Tame (startShape f)
     unfolding startShape
     start-tame h = record {
-      plain = plain-fresh 0 (arity f);
+      plain = every-fresh Unmade (λ k. tt) 0 (arity f);
       once = λ v. fresh-once s v 0 (arity f);
       none-above = λ v h′. le-of-eq (fresh-above s v 0 (arity f) (omega arith));
       little = le-trans (le-of-eq (fresh-weightless s 1 0 (arity f))) zero-le;
@@ -58,7 +58,8 @@ module _ (s : Program) (heavy : (c : ℕ) (k : Constructor) → constructor s c 
         → x .count + length (k .arguments) ≤ 16 → Tame x → Tame (splitVariable x rest v c (length (k .arguments)))
     unfolding splitVariable
     split-tame x rest v c k ck room t = record {
-      plain = all-mapped (replace v new) (replace-plain v new (plain-trees (plain-fresh (x .count) (length (k .arguments))))) (t .plain);
+      plain = every-replaced Unmade v new (tt, every-trees Unmade (every-fresh Unmade (λ k. tt) (x .count) (length (k .arguments))))
+          (unmade-stays v new) (t .plain);
       once = λ y. le-trans (grows 0 (one-at y)) (rw (amount-new 0 (one-at y)) (once-more y (leb (x .count) y) refl));
       none-above =
           λ y h. le-trans (grows 0 (one-at y)) (rw (amount-new 0 (one-at y), fresh-above s y (x .count) (length (k .arguments)) h)
@@ -70,17 +71,17 @@ module _ (s : Program) (heavy : (c : ℕ) (k : Constructor) → constructor s c 
     }
       where
         new : Expression
-        new = made (built c) (variables (x .count) (length (k .arguments)))
+        new = made (known c) (variables (x .count) (length (k .arguments)))
 
-        amount-new : (κ : ℕ) (w : ℕ → ℕ) → amount s κ w (made (built c) (variables (x .count) (length (k .arguments))))
+        amount-new : (κ : ℕ) (w : ℕ → ℕ) → amount s κ w (made (known c) (variables (x .count) (length (k .arguments))))
             ≡ κ * k .weight + inAll s κ w (variables (x .count) (length (k .arguments)))
         amount-new κ w = rw (ck, amounts-list s κ w (variables (x .count) (length (k .arguments))))
 
-        grows : (κ : ℕ) (w : ℕ → ℕ) → inAll s κ w (map (replace v (made (built c) (variables (x .count) (length (k .arguments)))))
+        grows : (κ : ℕ) (w : ℕ → ℕ) → inAll s κ w (map (replace v (made (known c) (variables (x .count) (length (k .arguments)))))
             (x .parameters))
             ≤ inAll s κ w (x .parameters) + inAll s 0 (one-at v) (x .parameters) * amount s κ w
-            (made (built c) (variables (x .count) (length (k .arguments))))
-        grows κ w = replaced-amount s κ w v (made (built c) (variables (x .count) (length (k .arguments)))) (x .parameters)
+            (made (known c) (variables (x .count) (length (k .arguments))))
+        grows κ w = replaced-amount s κ w v (made (known c) (variables (x .count) (length (k .arguments)))) (x .parameters)
 
         weighs : (p q w a b : ℕ) → p ≤ 255 * a → q ≤ 1 → w ≤ 255 * b → p + q * (1 * w + 0) ≤ 255 * (a + b)
         weighs p q w a b hp hq hw = omega (arith, mul-le-mul-right (1 * w + 0) hq)
@@ -104,12 +105,14 @@ module _ (s : Program) (heavy : (c : ℕ) (k : Constructor) → constructor s c 
     branch-tame i x rest c b k ck (node (variable v) ts ∷ more) M e t =
         let r = branch-variable s n f i x rest c (length (k .arguments)) b v ts more e in
         rw (r .1) (split-tame x rest v c k ck (r .0) t l∷ t l∷ l[])
-    branch-tame i x rest c b k ck (node (built d) ts ∷ more) M e t =
-        rw (branch-built s n f i x rest c (length (k .arguments)) b d ts more e) (one (eqb d c))
+    branch-tame i x rest c b k ck (node (known d) ts ∷ more) M e t =
+        rw (branch-known s n f i x rest c (length (k .arguments)) b d ts more e) (one (eqb d c))
       where
         one : (y : Bool) → All (Brings Tame) ((if y then (suc i, withStack x (rest ++ toList ts)) else (b, x)) ∷ [])
         one true = stack-tame x (rest ++ toList ts) t l∷ l[]
         one false = t l∷ l[]
+    branch-tame i x rest c b k ck (node (built d) ts ∷ more) M e t =
+        absurd (branch-built s n f i x rest c (length (k .arguments)) b d ts more e)
     branch-tame i x rest c b k ck (node (called g) ts ∷ more) M e t =
         absurd (branch-called s n f i x rest c (length (k .arguments)) b g ts more e)
 
@@ -130,17 +133,10 @@ module _ (s : Program) (heavy : (c : ℕ) (k : Constructor) → constructor s c 
     rule-tame i ins x M e t = from-tame i ins x M (shape-covered s n f i ins x e .1) t
 
 module _ {bytes : List ℕ} {s : Program} (P : Passed bytes s) (small : All (λ b. b < 256) bytes) where
-  pub shapes-tame : (n : ℕ) (f : Function) → function s n ≡ some f → (i : ℕ) (x : Shape) → arrived (shapesOf s n f) i ≡ some x
+  pub shapes-tame : (n : ℕ) (f : Function) → function s n ≡ some f → (i : ℕ) (x : Shape) → shapeAt s n f i ≡ some x
       → Tame s (weight-heavy P small) x
-  unfolding sizesRight shapesOf
   shapes-tame n f e i x h =
-      let r = each-found (shapesOf s) 0 (s .functions) (P .shapes) n e in
-      let is : shapesOf s n f ≡ found (r .0) = rw (zero-add n) at (r .1) in
-      one (walks (visited (shapeRule s n f)) (f .code) 1 ((1, startShape f) ∷ []) is) i (rw is at h)
-    where
-      one : {T : List (List Shape)} → Walks (visited (shapeRule s n f)) 1 ((1, startShape f) ∷ []) (f .code) T → (i : ℕ)
-          → arrived (found T) i ≡ some x → Tame s (weight-heavy P small) x
-      one w zero e′ = none-some e′
-      one w (suc d) e′ =
-          walk-all (Tame s (weight-heavy P small)) (rule-tame s (weight-heavy P small) n f) w
-          (start-tame s (weight-heavy P small) n f (accepted P n f e .few) l∷ l[]) d e′
+      state-all (shapeRule s n f) (rootAt 1 (startShape f)) (f .code) (λ _ x. Tame s (weight-heavy P small) x)
+      (λ j y c. rw (← root-start (shapeRule s n f) (startShape f) (f .code) j y c .1)
+      (start-tame s (weight-heavy P small) n f (sizes-accepted P n f e .few)))
+      (λ i ins c y w M r t. rule-tame s (weight-heavy P small) n f i ins y M r t) i x h

@@ -1,14 +1,16 @@
--- Laws of All, Any and All2, and of the ways of a stack to be read and cut.
+-- Laws of All, Any and All2, of the ways of a stack to be read and cut, and of tests.
 use mathlib.Core.Path.{_≡_, refl, sym, ap, _∙_}
 use mathlib.Core.List.{List, [], _∷_, _++_, map}
 use mathlib.Core.Option.{Option, none, some}
-use mathlib.Core.Bool.{Bool, true, false, _&&_, _||_, and-eq-true-iff}
+use mathlib.Core.Bool.{Bool, true, false, _&&_, _||_, and-eq-true-iff, or-true}
+use mathlib.Core.Logic.{_↔_}
 use Prim.Native.Nat.{ℕ, zero, suc, _-_, _≤_, _<_, zero-le, suc-le-suc}
 use native.Mathlib.Omega.{arith}
+use native.Mathlib.Nat.{not-suc-le-zero, le-of-suc-le-suc}
 use lib.ListN.{length, take, drop, getElem?, getD}
-use lib.Dec.{leb}
-use borrow.Author.Tests.{leb-true}
-use Rattle.rules.specs.Base.{all, any, if_then_else_}
+use lib.Dec.{leb, ltb, eqb}
+use borrow.Author.Tests.{leb-true, le-leb, ltb-true, lt-ltb, eqb-true, eq-eqb}
+use Rattle.rules.specs.Base.{isZero, all, any, if_then_else_}
 use Rattle.rules.specs.Stacks.{slot, split}
 use Rattle.rules.specs.Lists.{All, l[], _l∷_, Any, here, there, All2, a[], _a∷_}
 
@@ -19,6 +21,10 @@ pub at-less : {A : Type 0} (l : List A) (k : ℕ) {v : A} → getElem? l k ≡ s
 at-less [] k e = none-some e
 at-less (y ∷ l) zero e = suc-le-suc zero-le
 at-less (y ∷ l) (suc k) e = suc-le-suc (at-less l k e)
+
+pub slot-low : {A : Type 0} (i : ℕ) (xs : List A) {x : A} → slot i xs ≡ some x → (1 ≤ i) × (i ≤ length xs)
+slot-low zero xs e = none-some e
+slot-low (suc d) xs e = (omega arith, at-less xs d e)
 
 pub some-inj : {A : Type 0} {v w : A} → _≡_ {A = Option A} (some v) (some w) → v ≡ w
 some-inj p = cc
@@ -149,6 +155,16 @@ pub all-last : {A : Type 0} {P : A → Type 0} (xs : List A) {x : A} → All P (
 all-last [] (p l∷ l[]) = p
 all-last (y ∷ xs) (p l∷ ps) = all-last xs ps
 
+pub all-slot : {A : Type 0} {P : A → Type 0} (a : ℕ) {xs : List A} {x : A} → slot a xs ≡ some x → All P xs → P x
+all-slot zero e h = none-some e
+all-slot (suc k) e h = all-at k h e
+
+pub all-parts : {A : Type 0} {P : A → Type 0} (k : ℕ) {xs : List A} {p : List A × List A} → split k xs ≡ some p → All P xs
+    → All P (p .0) × All P (p .1)
+all-parts k {xs} e h =
+    let r = split-parts k xs e in
+    rw (r .1) (all-take (length xs - k) h, all-drop (length xs - k) h)
+
 -- of a list of one, of two
 pub all-one : {A : Type 0} {P : A → Type 0} {l : List A} {x : A} → l ≡ x ∷ [] → All P l → P x
 all-one e h = one (rw e at h)
@@ -161,12 +177,6 @@ all-two e h = one (rw e at h)
   where
     one : {A : Type 0} {P : A → Type 0} {x y : A} → All P (x ∷ y ∷ []) → P x × P y
     one (p l∷ q l∷ l[]) = (p, q)
-
--- related, and more is known of the first
-pub all2-also : {A B : Type 0} {R : A → B → Type 0} {P : A → Type 0} {xs : List A} {ys : List B} → All2 R xs ys → All P xs
-    → All2 (λ x y. R x y × P x) xs ys
-all2-also a[] l[] = a[]
-all2-also (r a∷ p) (q l∷ qs) = (r, q) a∷ all2-also p qs
 
 -- what is related to what all have
 pub all-from : {A B : Type 0} {R : A → B → Type 0} {P : A → Type 0} {Q : B → Type 0} → ((x : A) (y : B) → R x y → Q y → P x)
@@ -220,3 +230,63 @@ any-true {A} {P} f g (x ∷ xs) h = one (λ e. any-true f g xs e) (f x) refl h
     one : (any f xs ≡ true → Any P xs) → (b : Bool) → f x ≡ b → (b || any f xs) ≡ true → Any P (x ∷ xs)
     one ih true e w = here (g x e)
     one ih false e w = there (ih w)
+
+pub at-there : {A : Type 0} (l : List A) (k : ℕ) → k < length l → (v : A) × (getElem? l k ≡ some v)
+at-there [] k h = absurd (not-suc-le-zero h)
+at-there (x ∷ l) zero h = (x, refl)
+at-there (x ∷ l) (suc k) h = at-there l k (le-of-suc-le-suc h)
+
+---- A test and what it tests
+
+pub and-iff : {P Q : Type 0} {a b : Bool} → (a ≡ true ↔ P) → (b ≡ true ↔ Q) → (a && b) ≡ true ↔ (P × Q)
+and-iff {a = a} {b = b} p q =
+    ((λ e. (p .0 (and-left a b e), q .0 (and-right a b e))), λ h. (and-eq-true-iff a b) .1 (p .1 (h .0), q .1 (h .1)))
+
+-- a test that fails, of something that does not hold
+pub test-not : {P : Type 0} (t : Bool) → (t ≡ true ↔ P) → t ≡ false → ¬ P
+test-not t test e p = false-true (sym e ∙ test .1 p)
+
+pub leb-iff : (a b : ℕ) → leb a b ≡ true ↔ a ≤ b
+leb-iff a b = (leb-true a b, le-leb a b)
+
+pub ltb-iff : (a b : ℕ) → ltb a b ≡ true ↔ a < b
+ltb-iff a b = (ltb-true a b, lt-ltb a b)
+
+pub eqb-iff : (a b : ℕ) → eqb a b ≡ true ↔ a ≡ b
+eqb-iff a b = (eqb-true a b, eq-eqb a b)
+
+module _ {A : Type 0} {P : A → Type 0} (f : A → Bool) (test : (x : A) → f x ≡ true ↔ P x) where
+  pub all-iff : (xs : List A) → all f xs ≡ true ↔ All P xs
+  all-iff xs = ((λ e. all-true f (λ x h. test x .0 h) xs e), holds)
+    where
+      holds : {xs : List A} → All P xs → all f xs ≡ true
+      holds l[] = refl
+      holds (_l∷_ {x} {xs} p ps) = (and-eq-true-iff (f x) (all f xs)) .1 (test x .1 p, holds ps)
+
+  pub any-iff : (xs : List A) → any f xs ≡ true ↔ Any P xs
+  any-iff xs = ((λ e. any-true f (λ x h. test x .0 h) xs e), holds)
+    where
+      holds : {xs : List A} → Any P xs → any f xs ≡ true
+      holds (here {x} p) = rw (test x .1 p)
+      holds (there {x} {xs} p) = rw (holds p, or-true (f x))
+
+-- the numbers from an index on are all zero
+pub zeros-iff : (xs : List ℕ) (n : ℕ) → all isZero (drop n xs) ≡ true ↔ ((i : ℕ) → n ≤ i → i < length xs → getD xs i 0 ≡ 0)
+zeros-iff [] zero = ((λ e i l h. absurd (not-suc-le-zero h)), λ h. refl)
+zeros-iff [] (suc n) = ((λ e i l h. absurd (not-suc-le-zero h)), λ h. refl)
+zeros-iff (x ∷ xs) zero = (
+  zeros (zeros-iff xs 0),
+  λ h. (and-eq-true-iff (isZero x) (all isZero xs)) .1
+      (eq-eqb x 0 (h 0 (omega arith) (omega arith)), zeros-iff xs 0 .1 (λ i l m. h (suc i) (omega arith) (omega arith))),
+)
+  where
+    zeros : (all isZero xs ≡ true ↔ ((i : ℕ) → 0 ≤ i → i < length xs → getD xs i 0 ≡ 0)) → (isZero x && all isZero xs) ≡ true → (i : ℕ)
+        → 0 ≤ i → i < suc (length xs) → getD (x ∷ xs) i 0 ≡ 0
+    zeros ih e zero l m = eqb-true x 0 (and-left (isZero x) (all isZero xs) e)
+    zeros ih e (suc i) l m = ih .0 (and-right (isZero x) (all isZero xs) e) i (omega arith) (omega arith)
+zeros-iff (x ∷ xs) (suc n) = (later (zeros-iff xs n), λ h. zeros-iff xs n .1 (λ i l m. h (suc i) (omega arith) (omega arith)))
+  where
+    later : (all isZero (drop n xs) ≡ true ↔ ((i : ℕ) → n ≤ i → i < length xs → getD xs i 0 ≡ 0)) → all isZero (drop n xs) ≡ true → (i : ℕ)
+        → suc n ≤ i → i < suc (length xs) → getD (x ∷ xs) i 0 ≡ 0
+    later ih e zero l m = absurd (not-suc-le-zero l)
+    later ih e (suc i) l m = ih .0 e i (omega arith) (omega arith)

@@ -1,20 +1,28 @@
 -- The machine's steps one after the other.
 use mathlib.Core.Path.{_≡_, refl}
-use mathlib.Core.List.{[], _∷_}
+use mathlib.Core.List.{[], _∷_, List}
 use mathlib.Core.Option.{Option, none, some}
 use Prim.Native.Nat.{ℕ, zero, suc, _+_}
 use native.Mathlib.Omega.{arith}
 use Rattle.rules.specs.declared.records.Instruction.{Instruction}
 use Rattle.rules.specs.declared.records.Instruction.the-variants.{Load, Build, Call, Branch, Return, Stop}
 use Rattle.rules.specs.Program.{Program}
-use Rattle.rules.specs.Machine.{_>>=_, Value, State, current, execute, step, after, returned, resultOf}
+use Rattle.rules.specs.Machine.{_>>=_, Value, State, current, execute, step, after, returned, resultOf, top}
 use Rattle.rules.specs.Promise.{takes, builds}
-use Rattle.rules.proofs.ListLaws.{none-some, some-inj}
+use Rattle.rules.proofs.ListLaws.{none-some, some-inj, all-slot, all-parts}
+use Rattle.rules.specs.Lists.{All}
+use Rattle.rules.specs.Stacks.{slot, split}
 
 -- something needed that is there
 pub bind-some : {A B : Type 0} (o : Option A) (f : A → Option B) {b : B} → (o >>= f) ≡ some b → (a : A) × (o ≡ some a) × (f a ≡ some b)
 bind-some none f e = none-some e
 bind-some (some a) f e = (a, refl, e)
+
+-- the top value is one of all
+pub all-top : {P : Value → Type 0} {xs : List Value} {v : Value} → top xs ≡ some v → All P xs → P v
+all-top {P} {xs} e h =
+    let r = bind-some (split 1 xs) (λ parts. slot 1 (parts .1)) e in
+    all-slot 1 (r .2) (all-parts 1 (r .1) h .1)
 
 -- one step more
 pub after-next : (s : Program) (k : ℕ) (st mid next : State) → after s k st ≡ some mid → step s mid ≡ some next

@@ -12,15 +12,16 @@ use borrow.Author.Tests.{leb-true, eqb-true, eq-eqb}
 use Rattle.rules.specs.Program.{Constructor, Function, Program, constructor, function}
 use Rattle.rules.specs.declared.records.Alternative.{Alternative}
 use Rattle.rules.specs.Tree.{Trees, node, nil, cons}
-use Rattle.rules.specs.Expressions.{Symbol, variable, built, called, Expression}
+use Rattle.rules.specs.Expressions.{Symbol, variable, known, built, called, Expression, EveryIn}
 use Rattle.rules.specs.Forms.{Form, constantOnly, variableOnly, plusTimes, added, substituted, intoBound, builtForm, calledForm}
 use Rattle.rules.specs.Forms.{formOf, formsOf, atMost}
 use Rattle.rules.specs.Lists.{All, l[], _l∷_, All2, a[], _a∷_}
 use Rattle.rules.specs.Values.{dot}
-use Rattle.rules.specs.Facts.{Plain, PlainAll}
+use Rattle.rules.specs.Facts.{Plain, Unmade}
 use Rattle.rules.proofs.ListLaws.{all-any, all-map, all-mapped, and-left, and-right}
-use Rattle.rules.proofs.FormLaws.{total, dot-most, all-flatMap}
+use Rattle.rules.proofs.FormLaws.{dot-most, all-flatMap}
 use Rattle.rules.proofs.Amounts.{one-at, one-at-same, weightOf, amount, amounts, inAll}
+use Rattle.rules.specs.Quasi.{total}
 
 ---- A measure of alternatives that is linear: κ for each unit of the constant, w k for variable k
 
@@ -118,10 +119,11 @@ module _ (s : Program) (μ : Measure) where
 
     form-most : (e : Expression) → Plain e → Most (amount s (μ .κ) (μ .w) e) (formOf s e)
     form-most (node (variable k) ts) h = _l∷_ {x = variableOnly k} (μ .variable k) l[]
-    form-most (node (built c) ts) h = built-most (constructor s c) (forms-most ts h)
-    form-most (node (called g) ts) h = absurd h
+    form-most (node (known c) ts) h = built-most (constructor s c) (forms-most ts (h .1))
+    form-most (node (built c) ts) h = absurd (h .0)
+    form-most (node (called g) ts) h = absurd (h .0)
 
-    forms-most : (ts : Trees Symbol) → PlainAll ts → All2 Most (amounts s (μ .κ) (μ .w) ts) (formsOf s ts)
+    forms-most : (ts : Trees Symbol) → EveryIn Unmade ts → All2 Most (amounts s (μ .κ) (μ .w) ts) (formsOf s ts)
     forms-most nil h = a[]
     forms-most (cons t ts) h = form-most t (h .0) a∷ forms-most ts (h .1)
 
@@ -181,18 +183,20 @@ substituted-wide (suc m ∷ ms) k (_l∷_ {xs} u p) =
     (λ choice (z : length (choice .coefficients) ≡ 16). all-mapped (added (suc m) choice)
     (λ a v. plus-length (a .coefficients) (choice .coefficients) (suc m) 16 v z) (substituted-wide ms k p)) u
 
+built-wide : (o : Option Constructor) {forms : List Form} → All WideForm forms → WideForm (builtForm o forms)
+unfolding builtForm
+built-wide none p = l[]
+built-wide (some k) p = substituted-wide (replicate (length (k .arguments)) 1) (k .weight) p
+
 module _ (s : Program) where
   mutual
-    unfolding formOf builtForm calledForm intoBound variableOnly
+    unfolding formOf calledForm intoBound variableOnly
 
     pub form-wide : (e : Expression) → WideForm (formOf s e)
     form-wide (node (variable k) ts) =
         _l∷_ {x = variableOnly k} (length-set {A = ℕ} (replicate 16 0) k 1 ∙ length-replicate {A = ℕ} 16 0) l[]
-    form-wide (node (built c) ts) = one (constructor s c) (forms-wide ts)
-      where
-        one : (o : Option Constructor) {forms : List Form} → All WideForm forms → WideForm (builtForm o forms)
-        one none p = l[]
-        one (some k) p = substituted-wide (replicate (length (k .arguments)) 1) (k .weight) p
+    form-wide (node (known c) ts) = built-wide (constructor s c) (forms-wide ts)
+    form-wide (node (built c) ts) = built-wide (constructor s c) (forms-wide ts)
     form-wide (node (called g) ts) = one (function s g) (forms-wide ts)
       where
         one : (o : Option Function) {forms : List Form} → All WideForm forms → WideForm (calledForm o forms)

@@ -13,12 +13,13 @@ use Rattle.rules.specs.Base.{if_then_else_}
 use Rattle.rules.specs.Program.{Constructor, Function, Program, constructor, function}
 use Rattle.rules.specs.Tree.{Tree, Trees, node, nil, cons, toList, fromList}
 use Rattle.rules.specs.Machine.{Value}
-use Rattle.rules.specs.Expressions.{Symbol, variable, built, called, Expression, variables, replace, replaceAll}
+use Rattle.rules.specs.Expressions.{Symbol, variable, known, built, called, Expression, variables, replace, replaceAll}
 use Rattle.rules.specs.Forms.{variableOnly, formOf, formsOf, builtForm, calledForm}
 use Rattle.rules.specs.Lists.{l[], _l∷_, here, All2, a[], _a∷_}
 use Rattle.rules.specs.Values.{size, sizeOfAll, sizes, AllHave, Typed, dot, valueAt}
 use Rattle.rules.proofs.ListLaws.{none-some, some-inj, at-less}
-use Rattle.rules.proofs.FormLaws.{Under, Over, total, dot-ones, variable-value, substituted-under, substituted-over, into-under}
+use Rattle.rules.proofs.FormLaws.{Under, Over, dot-ones, variable-value, substituted-under, substituted-over, into-under}
+use Rattle.rules.specs.Quasi.{total}
 
 ---- Lists
 
@@ -80,6 +81,9 @@ module _ (s : Program) where
   abbrev mutual
     pub Models : Type 0 → List Value → Value → Expression → Type 0
     Models C ρ v (node (variable k) ts) = getElem? ρ k ≡ some v
+    Models C ρ v (node (known c) ts) =
+        (vs : Trees ℕ) × (v ≡ node c vs) × (k : Constructor) × (constructor s c ≡ some k) × (length (toList vs) ≡ length (k .arguments))
+        × ModelsAll C ρ ts (toList vs)
     Models C ρ v (node (built c) ts) =
         (vs : Trees ℕ) × (v ≡ node c vs) × (k : Constructor) × (constructor s c ≡ some k) × (length (toList vs) ≡ length (k .arguments))
         × ModelsAll C ρ ts (toList vs)
@@ -114,6 +118,10 @@ module _ (s : Program) where
 
       pub models-under : (e : Expression) (v : Value) → Models C ρ v e → Under (sizes s ρ) (size s v) (formOf s e)
       models-under (node (variable k) ts) v h = here {x = variableOnly k} (le-of-eq (sym (variable-size k v h)))
+      models-under (node (known c) ts) v h =
+          rw (h .3, h .1, size-made s light c (h .2) (h .3) (h .0) (h .4))
+          (substituted-under (sizes s ρ) (replicate (length (h .2 .arguments)) 1) (h .2 .weight)
+          (models-under-all ts (toList (h .0)) (h .5)))
       models-under (node (built c) ts) v h =
           rw (h .3, h .1, size-made s light c (h .2) (h .3) (h .0) (h .4))
           (substituted-under (sizes s ρ) (replicate (length (h .2 .arguments)) 1) (h .2 .weight)
@@ -140,6 +148,9 @@ module _ (s : Program) where
 
       pub models-over : (e : Expression) (v : Value) → Models ⊥ ρ v e → Over (sizes s ρ) (size s v) (formOf s e)
       models-over (node (variable k) ts) v h = _l∷_ {x = variableOnly k} (le-of-eq (variable-size light ⊥ ρ wide k v h)) l[]
+      models-over (node (known c) ts) v h =
+          rw (h .3, h .1, size-made s light c (h .2) (h .3) (h .0) (h .4))
+          (substituted-over (sizes s ρ) (replicate (length (h .2 .arguments)) 1) (h .2 .weight) (models-over-all ts (toList (h .0)) (h .5)))
       models-over (node (built c) ts) v h =
           rw (h .3, h .1, size-made s light c (h .2) (h .3) (h .0) (h .4))
           (substituted-over (sizes s ρ) (replicate (length (h .2 .arguments)) 1) (h .2 .weight) (models-over-all ts (toList (h .0)) (h .5)))
@@ -163,6 +174,7 @@ module _ (s : Program) where
           one : (b : Bool) → eqb j k ≡ b → Models C (ρ ++ more) v (if b then e′ else node (variable j) ts)
           one true eq = let same : w ≡ v = some-inj (sym at-k ∙ rw (← eqb-true j k eq) h) in rw (← same) is
           one false eq = at-append ρ more j h
+      models-replace (node (known c) ts) v h = (h .0, h .1, h .2, h .3, h .4, models-replace-all ts (toList (h .0)) (h .5))
       models-replace (node (built c) ts) v h = (h .0, h .1, h .2, h .3, h .4, models-replace-all ts (toList (h .0)) (h .5))
       models-replace (node (called g) ts) v h = (h .0, h .1, h .2, h .3, h .4, models-replace-all ts (h .0) (h .5))
 

@@ -1,14 +1,15 @@
 -- Lists and checks by number: `numbered`, `forEach`, `each`.
-use mathlib.Core.Path.{_≡_, refl, ap, _∙_, subst}
+use mathlib.Core.Path.{_≡_, refl, sym, ap, _∙_, subst}
 use mathlib.Core.Option.{none, some}
+use mathlib.Core.Logic.{_↔_}
 use Prim.Native.Nat.{ℕ, zero, suc, _+_, _-_, _≤_, _<_}
 use native.Mathlib.Omega.{arith}
 use native.Mathlib.Numerals.{add-one}
 use native.Mathlib.Nat.{zero-add, not-suc-le-zero, add-suc, suc-add, add-zero}
 use lib.ListN.{length, getElem?}
-use Rattle.rules.specs.Base.{Refusal, Tried, found, refused, _>>=_, Check, passed, only, numbered, forEach, each}
+use Rattle.rules.specs.Base.{Refusal, found, refused, _>>=_, Check, passed, numbered, forEach, each}
 use Rattle.rules.specs.Lists.{All, l[], _l∷_}
-use Rattle.rules.proofs.TriedLaws.{bind-found}
+use Rattle.rules.proofs.TriedLaws.{bind-found, refused-found}
 
 module _ {A : Type 0} (f : ℕ → A) where
   pub numbered-length : (n k : ℕ) → length (numbered f k n) ≡ n
@@ -35,17 +36,13 @@ module _ {A : Type 0} (f : ℕ → A) where
       subst (λ (i : ℕ). P (f i)) (add-zero k) (h 0 (omega arith))
       l∷ numbered-all n (suc k) (λ i l. subst (λ (j : ℕ). P (f j)) (add-suc k i ∙ (rw (suc-add k i) refl)) (h (suc i) (omega arith)))
 
--- a rule over a numbered list is the rule at each number
-pub each-numbered : {A B : Type 0} (rule : ℕ → A → Tried B) (f : ℕ → A) (n k : ℕ)
-    → each rule k (numbered f k n) ≡ forEach (λ i. only (rule i (f i))) k n
+-- a rule over a numbered list is the rule at each number; the rule may count from another number
+pub each-numbered : {A : Type 0} (rule : ℕ → A → Check) (f : ℕ → A) (number : ℕ → ℕ) → ((k : ℕ) → number (suc k) ≡ suc (number k))
+    → (n k : ℕ) → each rule (number k) (numbered f k n) ≡ forEach (λ i. rule (number i) (f i)) k n
 unfolding each numbered forEach
-each-numbered rule f zero k = refl
-each-numbered {B = B} rule f (suc n) k = go (rule k (f k)) (each-numbered rule f n (suc k))
-  where
-    go : (t : Tried B) → each rule (suc k) (numbered f (suc k) n) ≡ forEach (λ i. only (rule i (f i))) (suc k) n
-        → (t >>= (λ _. each rule (suc k) (numbered f (suc k) n))) ≡ (only t >>= (λ _. forEach (λ i. only (rule i (f i))) (suc k) n))
-    go (found b) ih = ih
-    go (refused r) ih = refl
+each-numbered rule f number h zero k = refl
+each-numbered rule f number h (suc n) k =
+    ap (λ (later : Check). rule (number k) (f k) >>= (λ _. later)) (rw (h k) at (each-numbered rule f number h n (suc k)))
 
 module _ (rule : ℕ → Check) where
   -- the check of number k of n and of those behind it
@@ -76,3 +73,50 @@ module _ (rule : ℕ → Check) where
   -- where all pass, each does
   pub forEach-at : (n : ℕ) {u : Unit {0}} → forEach rule 0 n ≡ found u → (i : ℕ) → i < n → rule i ≡ passed
   forEach-at n e i h = subst (λ (j : ℕ). rule j ≡ passed) (zero-add i) (forEach-all n 0 e i h)
+
+  -- the rule refuses a number, and passes for those before it
+  pub record FirstNumber (k n : ℕ) (r : Refusal) : Type 0 where
+    pub number : ℕ
+    pub below : number < n
+    pub refuses : rule (k + number) ≡ refused r
+    pub earlier : (j : ℕ) → j < number → rule (k + j) ≡ passed
+
+  first-number : (n k : ℕ) {r : Refusal} → forEach rule k n ≡ refused r → FirstNumber k n r
+  unfolding forEach
+  first-number zero k e = absurd (refused-found (sym e))
+  first-number (suc n) k {r} e = go (rule k) refl e (λ e′. first-number n (suc k) e′)
+    where
+      go : (t : Check) → rule k ≡ t → (t >>= (λ _. forEach rule (suc k) n)) ≡ refused r
+          → (forEach rule (suc k) n ≡ refused r → FirstNumber (suc k) n r) → FirstNumber k (suc n) r
+      go (found tt) h e ih = record {
+        number = suc (ih e .number);
+        below = omega (arith, ih e .below);
+        refuses = rw (add-suc k (ih e .number), ← suc-add k (ih e .number)) (ih e .refuses);
+        earlier = before;
+      }
+        where
+          before : (j : ℕ) → j < suc (ih e .number) → rule (k + j) ≡ passed
+          before zero l = rw (add-zero k) h
+          before (suc j) l = rw (add-suc k j, ← suc-add k j) (ih e .earlier j (omega arith))
+      go (refused q) h e ih = record {
+        number = 0;
+        below = omega arith;
+        refuses = rw (add-zero k) (h ∙ e);
+        earlier = λ j l. absurd (not-suc-le-zero l);
+      }
+
+  number-first : (n k i : ℕ) {r : Refusal} → i < n → rule (k + i) ≡ refused r → ((j : ℕ) → j < i → rule (k + j) ≡ passed)
+      → forEach rule k n ≡ refused r
+  unfolding forEach
+  number-first zero k i l h p = absurd (not-suc-le-zero l)
+  number-first (suc n) k zero {r} l h p =
+      let q : rule k ≡ refused r = rw (add-zero k) at h in
+      rw q
+  number-first (suc n) k (suc i) l h p =
+      let q : rule k ≡ passed = rw (add-zero k) at (p 0 (omega arith)) in
+      rw q (number-first n (suc k) i (omega arith) (rw (suc-add k i, ← add-suc k i) h) (λ j l′. rw (suc-add k j, ← add-suc k j)
+      (p (suc j) (omega arith))))
+
+  -- a rule for each number refuses just as it refuses the first that it refuses
+  pub forEach-refused : (n k : ℕ) (r : Refusal) → forEach rule k n ≡ refused r ↔ FirstNumber k n r
+  forEach-refused n k r = ((λ e. first-number n k e), λ f. number-first n k (f .number) (f .below) (f .refuses) (f .earlier))

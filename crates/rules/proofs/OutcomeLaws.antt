@@ -15,7 +15,7 @@ use Rattle.rules.specs.Program.{Constructor, Function, Program, construc
 use Rattle.rules.specs.Tree.{Trees, node, toList, made}
 use Rattle.rules.specs.Stacks.{slot, split, push}
 use Rattle.rules.specs.Types.{same, below, typesOn, typeRule}
-use Rattle.rules.specs.Expressions.{Symbol, variable, built, called, Expression}
+use Rattle.rules.specs.Expressions.{Symbol, variable, known, built, called, Expression}
 use Rattle.rules.specs.Forms.{formOf}
 use Rattle.rules.specs.Shapes.{Shape, withStack, splitVariable, coveredAt, enter, branchOn, shapeFrom, shapeRule}
 
@@ -77,7 +77,7 @@ module _ (s : Program) (n : ℕ) (f : Function) where
 ---- 10 and 9
 
 module _ (s : Program) (n : ℕ) (f : Function) where
-  pub rule-covered : (i : ℕ) (ins : Instruction) (x : Shape) → coveredAt s n f x ≡ true → shapeRule s n f i ins x ≡ shapeFrom s n f i ins x
+  pub rule-covered : (i : ℕ) (ins : Instruction) (x : Shape) → coveredAt s x ≡ true → shapeRule s n f i ins x ≡ shapeFrom s n f i ins x
   unfolding shapeRule
   rule-covered i ins x e = rw e
 
@@ -117,12 +117,12 @@ module _ (s : Program) (n : ℕ) (f : Function) where
 
   -- the side that can be taken
   pub known-same : (i : ℕ) (x : Shape) (rest : List Expression) (c args b d : ℕ) (ts : Trees Symbol) (more : List Expression) → d ≡ c
-      → branchOn s n f i x rest c args b (node (built d) ts ∷ more) ≡ found ((suc i, withStack x (rest ++ toList ts)) ∷ [])
+      → branchOn s n f i x rest c args b (node (known d) ts ∷ more) ≡ found ((suc i, withStack x (rest ++ toList ts)) ∷ [])
   unfolding branchOn
   known-same i x rest c args b d ts more e = rw (eq-eqb d c e)
 
   pub known-other : (i : ℕ) (x : Shape) (rest : List Expression) (c args b d : ℕ) (ts : Trees Symbol) (more : List Expression) → (d ≡ c → ⊥)
-      → branchOn s n f i x rest c args b (node (built d) ts ∷ more) ≡ found ((b, x) ∷ [])
+      → branchOn s n f i x rest c args b (node (known d) ts ∷ more) ≡ found ((b, x) ∷ [])
   unfolding branchOn
   known-other i x rest c args b d ts more e = rw (ne-eqb d c e)
 

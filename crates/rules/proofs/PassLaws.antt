@@ -8,22 +8,28 @@ use borrow.Author.Tests.{not-true, not-false}
 use Rattle.rules.specs.declared.answers.Checked.{Checked}
 use Rattle.rules.specs.Base.{Refusal, refused, Check, passed, require, forEach}
 use Rattle.rules.specs.Answers.{toldCheck}
+use Rattle.rules.proofs.EachLaws.{up-to}
 use Rattle.rules.proofs.NumberedLaws.{forEach-go, forEach-stop, forEach-none}
 
 -- the checks of numbers below k of m have passed
 pub record Passing (rule : ℕ → Check) (m k : ℕ) : Type 0 where
   pub within : k ≤ m
   pub left : forEach rule 0 m ≡ forEach rule k (m - k)
+  pub before : (j : ℕ) → j < k → rule j ≡ passed
 
 pub pass-first : {rule : ℕ → Check} {m : ℕ} → Passing rule m 0
-pass-first = record { within = omega arith; left = rw sub-zero }
+pass-first = record { within = omega arith; left = rw sub-zero; before = λ j h. absurd (omega arith) }
 
 module _ {rule : ℕ → Check} {m k : ℕ} (p : Passing rule m k) where
   pub pass-stop : {q : Refusal} → k < m → rule k ≡ refused q → refused q ≡ forEach rule 0 m
   pass-stop h e = sym (p .left ∙ forEach-stop rule m k h e)
 
   pub pass-next : k < m → rule k ≡ passed → Passing rule m (k + 1)
-  pass-next h e = record { within = omega arith; left = p .left ∙ forEach-go rule m k h e }
+  pass-next h e = record {
+    within = omega arith;
+    left = p .left ∙ forEach-go rule m k h e;
+    before = λ j l. up-to k (p .before) e j (omega arith);
+  }
 
   pub pass-end : m ≤ k → passed ≡ forEach rule 0 m
   pass-end h = sym (p .left ∙ forEach-none rule m k h)

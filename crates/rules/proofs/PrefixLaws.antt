@@ -1,7 +1,7 @@
 -- Values in prefix order: bytes that pass the argument check are values of the declared types, what is written of values is the bytes read,
 -- and what is written is read back.
 use mathlib.Core.Path.{_≡_, refl, ap}
-use mathlib.Core.List.{List, [], _∷_, _++_, append-assoc}
+use mathlib.Core.List.{List, [], _∷_, _++_, append-assoc, append-nil}
 use mathlib.Core.Option.{some}
 use mathlib.Core.Bool.{_&&_}
 use Prim.Native.Nat.{ℕ, suc, _≤_}
@@ -14,12 +14,12 @@ use Rattle.rules.specs.Lists.{a[], _a∷_}
 use Rattle.rules.specs.Program.{Constructor, Function, Program, constructor}
 use Rattle.rules.specs.Tree.{Trees, node, nil, cons, toList, fromList, made}
 use Rattle.rules.specs.Machine.{Value}
-use Rattle.rules.specs.Values.{Typed}
+use Rattle.rules.specs.Values.{Has, AllHave, Typed}
 use Rattle.rules.specs.Prefix.{readByte, readBytes, argumentsRight, arityOf, values, written, writtenAll}
-use Rattle.rules.specs.Facts.{ArgumentFact}
-use Rattle.rules.proofs.ListLaws.{all2-take, all2-drop, and-left}
+use Rattle.rules.specs.Facts.{ArgumentFact, ReadBackFact}
+use Rattle.rules.proofs.ListLaws.{all2-length, all2-take, all2-drop, and-left}
 use Rattle.rules.proofs.TriedLaws.{bind-found, found-inj, refused-found, after-some, after-required}
-use Rattle.rules.proofs.Models.{have-trees}
+use Rattle.rules.proofs.Models.{to-from, have-list, have-trees}
 
 ---- Read, then written
 
@@ -97,3 +97,22 @@ module _ (s : Program) where
     read-back-all nil h rest = refl
     read-back-all (cons v vs) h rest =
         rw (append-assoc, read-back v (h .0) (writtenAll vs ++ rest), read-back-all vs (h .1) rest)
+
+  -- a value of a type has as many arguments as its constructor asks for
+  mutual
+    unfolding arityOf
+
+    formed : (v : Value) (t : ℕ) → Has s v t → Formed v
+    formed (node c vs) t (k, e, is, h) = (rw e (all2-length (have-list s vs (k .arguments) h)), all-formed vs (k .arguments) h)
+
+    all-formed : (vs : Trees ℕ) (ts : List ℕ) → AllHave s vs ts → AllFormed vs
+    all-formed nil ts h = tt
+    all-formed (cons v vs) [] h = absurd h
+    all-formed (cons v vs) (t ∷ ts) (h, hs) = (formed v t h, all-formed vs ts hs)
+
+pub read-back-fact : ReadBackFact
+unfolding values
+read-back-fact s = (
+  (λ v t h. rw append-nil at (read-back s v (formed s v t h) [])),
+  λ vs ts h. rw (append-nil, append-nil, to-from) at (read-back-all s (fromList vs) (all-formed s (fromList vs) ts (have-trees s h)) []),
+)

@@ -10,25 +10,27 @@ use native.Mathlib.Nat.{add-zero}
 use lib.ListN.{length}
 use lib.Dec.{leb, eqb}
 use borrow.Author.Tests.{leb-true, leb-false}
-use Rattle.rules.specs.Base.{Refusal, refusal, Tried, found, refused, if_then_else_}
+use Rattle.rules.specs.Base.{Refusal, refusal, found, refused, Check, passed, if_then_else_}
 use Rattle.rules.specs.Program.{Function, Program, constructor, function}
 use Rattle.rules.specs.Machine.{Value, State, start, step, after, resultOf}
 use Rattle.rules.specs.Values.{size, Has, Typed}
 use Rattle.rules.specs.Check.{checked}
 use Rattle.rules.specs.Prefix.{readByte, readBytes, argumentsRight, values, written}
-use Rattle.rules.specs.Run.{Lent, Tables, usable, Ending, finished, aborted, refusedWith, Outcome, heights, fits, refusalAt, endOf}
+use Rattle.rules.specs.Run.{Lent, Tables, usable, Ending, finished, aborted, refusedWith, Outcome, answer, fits, refusalAt, endOf}
 use Rattle.rules.specs.Run.{continued, loaded, started, deliveredIn, delivered, run}
 use Rattle.rules.specs.Promise.{takes, builds, Room, NoRoom, frames, stack, heap, Ends, with-result, undelivered, stopped, spent}
-use Rattle.rules.specs.Promise.{short, Ran, Answers, not-begun, began, TallyPromise}
+use Rattle.rules.specs.Promise.{short, Ran, Answers, no-entry, bad-arguments, no-room, began, TallyPromise}
 use Rattle.rules.specs.Facts.{NumberFact}
 use Rattle.rules.proofs.ListLaws.{none-some, some-inj}
-use Rattle.rules.proofs.TriedLaws.{Refuses, refuses-bind, refuses-required, refuses-require, refuses-some}
-use Rattle.rules.proofs.Sound.{stepped, resulted}
+use Rattle.rules.proofs.TriedLaws.{Refuses, refuses-bind, refuses-required, refuses-some}
+use Rattle.rules.proofs.Progress.{stepped, resulted}
 use Rattle.rules.proofs.Accepted.{Passed, checked-parts}
 use Rattle.rules.proofs.MachineLaws.{after-next, result-stops, builds-next}
 use Rattle.rules.proofs.RunLaws.{Stepping, step-within, continued-ended, continued-spent, continued-short, continued-on}
-use Rattle.rules.proofs.RunLaws.{started-refused, started-loaded, loaded-parts, run-checked}
-use Rattle.rules.proofs.Reachable.{states-safe, limit, Invariant, Going, begins, going}
+use Rattle.rules.proofs.RunLaws.{started-refused, started-loaded, fits-found, fits-refused, load-no-entry, load-bad-arguments}
+use Rattle.rules.proofs.RunLaws.{load-no-room, load-begins, run-checked}
+use Rattle.rules.proofs.PrefixLaws.{arguments-typed}
+use Rattle.rules.proofs.Reachable.{states-safe, limit, Invariant, Going, begins, going, given}
 
 -- an entry function with arguments of the declared types, and what is lent
 module _ {file : List ℕ} {s : Program} (P : Passed file s) (n : ℕ) (f : Function) (at-f : function s n ≡ some f) (us : List Value)
@@ -82,7 +84,9 @@ module _ {file : List ℕ} {s : Program} (P : Passed file s) (n : ℕ) (f : Func
   now (fr ∷ frs) h = one (going P n f at-f us typed fr frs h)
     where
       one : Going P n f at-f us typed (fr ∷ frs) → Now (fr ∷ frs)
-      one (resulted v e w o l) = done (finished (written v)) (rw e) (delivers (fr ∷ frs) v e o l)
+      one (resulted v e w o) =
+          let g = given P n f at-f us typed v o in
+          done (finished (written v)) (rw e) (delivers (fr ∷ frs) v e (g .0) (g .1))
       one (stepped next e h′) = two (resultOf s (fr ∷ frs)) refl
         where
           two : (x : Option Value) → resultOf s (fr ∷ frs) ≡ x → Now (fr ∷ frs)
@@ -150,16 +154,37 @@ module _ (file : List ℕ) (s : Program) (e : checked file ≡ found s) where
   runs : (entry : ℕ) (arguments : List ℕ) (budget : ℕ) (lent : Lent)
       → Answers s entry arguments budget lent (run file entry arguments budget lent)
   unfolding delivered deliveredIn
-  runs entry arguments budget lent = rw (run-checked file entry arguments budget lent e) (one (loaded s (usable lent) entry arguments) refl)
+  runs entry arguments budget lent = rw (run-checked file entry arguments budget lent e) (one (function s entry) refl)
     where
-      one : (t : Tried State) → loaded s (usable lent) entry arguments ≡ t
-          → Answers s entry arguments budget lent (delivered (lent .output) (started s (usable lent) budget entry arguments))
-      one (refused r) w = not-begun r w (ap (delivered (lent .output)) (started-refused s (usable lent) budget entry arguments w))
-      one (found st) w =
-          let (f, at-f, few, typed, same, fits-start) = loaded-parts s (usable lent) entry arguments w in
-          rw (started-loaded s (usable lent) budget entry arguments w)
-          (began f at-f typed (started-ran (checked-parts file s e) entry f at-f (values s arguments) typed (usable lent) budget
-          (lent .output) (length arguments) st same fits-start))
+      Goal : Type 0
+      Goal = Answers s entry arguments budget lent (delivered (lent .output) (started s (usable lent) budget entry arguments))
+
+      begin : State
+      begin = start entry (values s arguments)
+
+      refuses : {r : Refusal} → loaded s (usable lent) entry arguments ≡ refused r
+          → delivered (lent .output) (started s (usable lent) budget entry arguments) ≡ answer (refusedWith r) 0
+      refuses w = ap (delivered (lent .output)) (started-refused s (usable lent) budget entry arguments w)
+
+      three : (f : Function) → function s entry ≡ some f → argumentsRight s f arguments ≡ passed → (t : Check)
+          → fits (usable lent) (start entry (values s arguments)) (length arguments) entry 1 ≡ t → Goal
+      three f at-f right (refused r) w =
+          let q = fits-refused (usable lent) begin (length arguments) entry 1 w in
+          no-room f at-f right (arguments-typed s f arguments right .1) (q .0) (q .1)
+          (refuses (load-no-room s (usable lent) entry arguments f at-f right w) ∙ ap (λ (x : Refusal). answer (refusedWith x) 0) (q .2))
+      three f at-f right (found u) w =
+          let typed = arguments-typed s f arguments right .1 in
+          rw (started-loaded s (usable lent) budget entry arguments (load-begins s (usable lent) entry arguments f at-f right w))
+          (began f at-f right typed (started-ran (checked-parts file s e) entry f at-f (values s arguments) typed (usable lent) budget
+          (lent .output) (length arguments) begin refl (fits-found (usable lent) begin (length arguments) entry 1 w)))
+
+      two : (f : Function) → function s entry ≡ some f → (t : Check) → argumentsRight s f arguments ≡ t → Goal
+      two f at-f (refused r) a = bad-arguments f at-f r a (refuses (load-bad-arguments s (usable lent) entry arguments f at-f a))
+      two f at-f (found tt) a = three f at-f a (fits (usable lent) (start entry (values s arguments)) (length arguments) entry 1) refl
+
+      one : (o : Option Function) → function s entry ≡ o → Goal
+      one none e₁ = no-entry e₁ (refuses (load-no-entry s (usable lent) entry arguments e₁))
+      one (some f) e₁ = two f e₁ (argumentsRight s f arguments) refl
 
 -- demand 3
 pub tally-promise : TallyPromise
@@ -185,21 +210,10 @@ bytes-numbers s offset (c ∷ bytes) pending =
     refuses-bind RunNumber (readByte s offset c pending) _ (byte-numbers s offset c pending)
     (λ later. bytes-numbers s (suc offset) bytes later)
 
-fits-numbers : (m : Tables) (st : State) (cells f i : ℕ) → Refuses RunNumber (fits m st cells f i)
-unfolding fits
-fits-numbers m st cells f i =
-    refuses-required RunNumber (leb (length st) (m .frames)) _ _ (omega arith, omega arith)
-    (refuses-required RunNumber (leb (heights st) (m .stack)) _ _ (omega arith, omega arith)
-    (refuses-require RunNumber (leb cells (m .cells)) _ (omega arith, omega arith)))
-
-loaded-numbers : (s : Program) (m : Tables) (entry : ℕ) (args : List ℕ) → Refuses RunNumber (loaded s m entry args)
-unfolding loaded argumentsRight
-loaded-numbers s m entry args =
-    refuses-some RunNumber (function s entry) _ _ (omega arith, omega arith)
-    (λ f. refuses-bind RunNumber (argumentsRight s f args) _
-    (refuses-required RunNumber (leb (length args) 65535) _ _ (omega arith, omega arith) (bytes-numbers s 0 args (f .parameters)))
-    (λ _. refuses-bind RunNumber (fits m (start entry (values s args)) (length args) entry 1) _
-    (fits-numbers m (start entry (values s args)) (length args) entry 1) (λ _. tt)))
+arguments-numbers : (s : Program) (f : Function) (args : List ℕ) → Refuses RunNumber (argumentsRight s f args)
+unfolding argumentsRight
+arguments-numbers s f args =
+    refuses-required RunNumber (leb (length args) 65535) _ _ (omega arith, omega arith) (bytes-numbers s 0 args (f .parameters))
 
 no-room-number : {m : Tables} {st : State} {cells number : ℕ} → NoRoom m st cells number → (15 ≤ number) × (number ≤ 17)
 no-room-number (frames h) = (omega arith, omega arith)
@@ -225,9 +239,11 @@ number-fact file s e entry arguments budget lent r w = one (runs file s e entry 
         let k = no-room-number gone in
         rw (← p, place-number number st) (omega arith, omega arith)
 
+    same : {x : Refusal} → run file entry arguments budget lent ≡ answer (refusedWith x) 0 → x ≡ r
+    same {x} q = let p : refusedWith x ≡ refusedWith r = sym (ap (λ (a : Outcome). a .ending) q) ∙ w in cc
+
     one : Answers s entry arguments budget lent (run file entry arguments budget lent) → RunNumber r
-    one (not-begun x h q) =
-        let p : refusedWith x ≡ refusedWith r = sym (ap (λ (a : Outcome). a .ending) q) ∙ w in
-        let same : x ≡ r = cc in
-        rw (← same) (rw h at (loaded-numbers s (usable lent) entry arguments))
-    one (began f at-f typed ran) = at-end _ w (ran .ending)
+    one (no-entry h q) = rw (← same q) (omega arith, omega arith)
+    one (bad-arguments f at-f x h q) = rw (← same q) (rw h at (arguments-numbers s f arguments))
+    one (no-room f at-f h typed number gone q) = let k = no-room-number gone in rw (← same q) (omega (arith, k .0), omega (arith, k .1))
+    one (began f at-f h typed ran) = at-end _ w (ran .ending)

@@ -120,6 +120,7 @@ module _ (bytes : List ℕ) where
   pub record DecodedFunction (f : Function) : Type 0 where
     pub few : length (f .parameters) ≤ 4
     pub some-code : 1 ≤ length (f .code)
+    pub some-bound : 1 ≤ length (f .bound)
     pub alternatives : All DecodedAlternative (f .bound)
 
   pub record DecodedConstructor (k : Constructor) : Type 0 where
@@ -146,6 +147,10 @@ module _ (bytes : List ℕ) where
         le-trans (t .some-code) (le-of-eq
         (sym (numbered-length (λ i. instructionOf (instructionAt bytes (instructionOffset (codeOffset bytes at) i))) (wordAt bytes (at + 8))
         0)));
+    some-bound =
+        le-trans (t .some-alternatives) (le-of-eq
+        (sym (numbered-length (λ k. alternativeOf (byteAt bytes (at + 1)) (alternativeAt bytes (alternativeOffset at k)))
+        (byteAt bytes (at + 6)) 0)));
     alternatives =
         numbered-all (λ k. alternativeOf (byteAt bytes (at + 1)) (alternativeAt bytes (alternativeOffset at k))) (byteAt bytes (at + 6)) 0
         (λ k l. rw (zero-add k) (alternative-decoded (byteAt bytes (at + 1)) (alternativeOffset at k) (t .alternative k l .1)));

@@ -15,12 +15,13 @@ use Rattle.rules.specs.Values.{weighted, size, sizeOfAll, sizes, Has, Al
 use Rattle.rules.specs.Prefix.{arityOf, values, written, writtenAll}
 use Rattle.rules.specs.Facts.{ResultFact}
 use Rattle.rules.proofs.ListLaws.{all-map}
-use Rattle.rules.proofs.FormLaws.{total, dot-most}
+use Rattle.rules.proofs.FormLaws.{dot-most}
 use Rattle.rules.proofs.Models.{to-from, size-total}
 use Rattle.rules.proofs.PrefixLaws.{arguments-typed}
 use Rattle.rules.proofs.Accepted.{Passed, checked-parts}
 use Rattle.rules.proofs.ProgramLaws.{weight-most, weight-least, bound-numbers}
 use Rattle.rules.proofs.Reachable.{begins, kept-after, result-kept}
+use Rattle.rules.specs.Quasi.{total}
 
 ---- Sizes
 

@@ -1,30 +1,31 @@
 -- What each rule that passes says: of its premises, and of the arrows that leave.
 use mathlib.Core.Path.{_≡_, refl, sym, ap, _∙_}
-use mathlib.Core.List.{List, [], _∷_, _++_}
-use mathlib.Core.Option.{some}
-use mathlib.Core.Bool.{Bool, true, false, not, _&&_}
-use Prim.Native.Nat.{ℕ, zero, suc, _+_, _≤_, _<_}
+use mathlib.Core.List.{List, [], _∷_, _++_, map}
+use mathlib.Core.Option.{some, Option}
+use mathlib.Core.Bool.{Bool, true, false, not, _&&_, _||_}
+use Prim.Native.Nat.{ℕ, suc, _+_, _≤_, _<_}
 use native.Mathlib.Omega.{arith}
 use native.Mathlib.Nat.{le-refl, le-trans}
-use lib.ListN.{length, getD}
-use lib.Dec.{leb, ltb, eqb}
-use borrow.Author.Tests.{leb-true, ltb-true, eqb-true}
+use lib.ListN.{length}
+use lib.Dec.{leb, eqb}
+use borrow.Author.Tests.{leb-true, ltb-true, eqb-true, not-true}
 use Rattle.rules.specs.declared.records.Instruction.{Instruction}
 use Rattle.rules.specs.declared.records.Instruction.the-variants.{Load, Build, Call, Branch, Return, Stop}
-use Rattle.rules.specs.Base.{Tried, found, if_then_else_, within}
+use Rattle.rules.specs.Base.{found, if_then_else_, within, passed}
 use Rattle.rules.specs.Program.{Constructor, Function, Program, constructor, function}
 use Rattle.rules.specs.Tree.{Trees, node, toList, made}
 use Rattle.rules.specs.Stacks.{slot, split, push}
-use Rattle.rules.specs.Walk.{Arrow, arriving, visited}
-use Rattle.rules.specs.Flow.{flowOn, flowFrom, flowRule}
+use Rattle.rules.specs.Walk.{targets, hits, arrivals, Arrow, arriving}
+use Rattle.rules.specs.Flow.{passing, leavesRight, arrivesRight, flowRule}
 use Rattle.rules.specs.Types.{same, below, typesOn, typeRule}
-use Rattle.rules.specs.Expressions.{Symbol, variable, built, called, Expression}
+use Rattle.rules.specs.Expressions.{Symbol, variable, known, built, called, Expression}
 use Rattle.rules.specs.Forms.{formOf}
 use Rattle.rules.specs.Shapes.{Shape, withStack, enter, splitVariable, branchOn, coveredAt, shapeFrom, shapeRule}
 use Rattle.rules.specs.Lists.{All, l[], _l∷_}
-use Rattle.rules.proofs.ListLaws.{false-true, all-append, and-left, and-right}
-use Rattle.rules.proofs.TriedLaws.{bind-found, found-inj, refused-found, after-some, after-required, same-true}
-use Rattle.rules.proofs.WalkLaws.{Brings, count, Walks, w[], w∷}
+use Rattle.rules.proofs.ListLaws.{all-append, and-left, and-right}
+use Rattle.rules.proofs.TriedLaws.{bind-found, found-inj, refused-found, after-some, after-required, same-true, required}
+use Rattle.rules.proofs.WalkLaws.{count}
+use Rattle.rules.specs.Records.{orElse}
 
 pair-path : {A B : Type 0} {x x′ : A} {y y′ : B} → x ≡ x′ → y ≡ y′ → _≡_ {A = A × B} (x, y) (x′, y′)
 pair-path e e′ = rw (e, e′)
@@ -103,14 +104,14 @@ abbrev pub Low : List ℕ → Type 0
 Low ts = length ts ≤ 16
 
 module _ (s : Program) (n : ℕ) (f : Function) where
-  next-low : (i : ℕ) (stack : List ℕ) {M : List (Arrow (List ℕ))} → typesOn s n f i stack ≡ found M → All (Brings Low) M
+  next-low : (i : ℕ) (stack : List ℕ) {M : List (Arrow (List ℕ))} → typesOn s n f i stack ≡ found M → All (λ a. Low (a .1)) M
   unfolding typesOn
   next-low i stack e =
       let r = after-required (leb (length stack) 16) _ _ e in
       rw (← found-inj (r .1)) (leb-true _ _ (r .0) l∷ l[])
 
   pub type-low : (i : ℕ) (ins : Instruction) (ts : List ℕ) (M : List (Arrow (List ℕ))) → typeRule s n f i ins ts ≡ found M → Low ts
-      → All (Brings Low) M
+      → All (λ a. Low (a .1)) M
   unfolding typeRule
   type-low i (Load a) ts M e h = next-low i _ (after-some (slot a ts) _ _ e .2)
   type-low i (Build c) ts M e h =
@@ -131,9 +132,9 @@ module _ (s : Program) (n : ℕ) (f : Function) where
 
 module _ (s : Program) (n : ℕ) (f : Function) where
   pub shape-covered : (i : ℕ) (ins : Instruction) (sh : Shape) {M : List (Arrow Shape)} → shapeRule s n f i ins sh ≡ found M
-      → (coveredAt s n f sh ≡ true) × (shapeFrom s n f i ins sh ≡ found M)
+      → (coveredAt s sh ≡ true) × (shapeFrom s n f i ins sh ≡ found M)
   unfolding shapeRule
-  shape-covered i ins sh e = after-required (coveredAt s n f sh) _ _ e
+  shape-covered i ins sh e = after-required (coveredAt s sh) _ _ e
 
   pub shape-load : (i a : ℕ) (sh : Shape) {M : List (Arrow Shape)} → shapeFrom s n f i (Load a) sh ≡ found M → (e : Expression)
       × (slot a (sh .stack) ≡ some e) × (M ≡ (suc i, withStack sh (push (sh .stack) e)) ∷ [])
@@ -189,11 +190,16 @@ module _ (s : Program) (n : ℕ) (f : Function) where
       let r = after-required (leb (sh .count + args) 16) _ _ e in
       (leb-true _ _ (r .0), sym (found-inj (r .1)))
 
-  pub branch-built : (i : ℕ) (sh : Shape) (rest : List Expression) (c args b d : ℕ) (ts : Trees Symbol) (more : List Expression)
-      {M : List (Arrow Shape)} → branchOn s n f i sh rest c args b (node (built d) ts ∷ more) ≡ found M
+  pub branch-known : (i : ℕ) (sh : Shape) (rest : List Expression) (c args b d : ℕ) (ts : Trees Symbol) (more : List Expression)
+      {M : List (Arrow Shape)} → branchOn s n f i sh rest c args b (node (known d) ts ∷ more) ≡ found M
       → M ≡ (if eqb d c then (suc i, withStack sh (rest ++ toList ts)) else (b, sh)) ∷ []
   unfolding branchOn
-  branch-built i sh rest c args b d ts more e = sym (found-inj e)
+  branch-known i sh rest c args b d ts more e = sym (found-inj e)
+
+  pub branch-built : (i : ℕ) (sh : Shape) (rest : List Expression) (c args b d : ℕ) (ts : Trees Symbol) (more : List Expression)
+      {M : List (Arrow Shape)} → branchOn s n f i sh rest c args b (node (built d) ts ∷ more) ≡ found M → ⊥
+  unfolding branchOn
+  branch-built i sh rest c args b d ts more e = refused-found e
 
   pub branch-called : (i : ℕ) (sh : Shape) (rest : List Expression) (c args b g : ℕ) (ts : Trees Symbol) (more : List Expression)
       {M : List (Arrow Shape)} → branchOn s n f i sh rest c args b (node (called g) ts ∷ more) ≡ found M → ⊥
@@ -207,28 +213,11 @@ module _ (s : Program) (n : ℕ) (f : Function) where
 
 ---- Where the arrows lead
 
--- what can follow instruction i
-abbrev pub targets : ℕ → Instruction → List ℕ
-targets i (Load a) = suc i ∷ []
-targets i (Build c) = suc i ∷ []
-targets i (Call g) = suc i ∷ []
-targets i (Branch c b) = suc i ∷ b ∷ []
-targets i Return = []
-targets i Stop = []
-
 -- some of these, in order
-pub data Among {S : Type 0} : List (Arrow S) → List ℕ → Type 0 where
+data Among {S : Type 0} : List (Arrow S) → List ℕ → Type 0 where
   s[] : Among [] []
   skip : {t : ℕ} {L : List (Arrow S)} {ts : List ℕ} → Among L ts → Among L (t ∷ ts)
   keep : {t : ℕ} {x : S} {L : List (Arrow S)} {ts : List ℕ} → Among L ts → Among ((t, x) ∷ L) (t ∷ ts)
-
-among-none : {S : Type 0} (ts : List ℕ) → Among {S = S} [] ts
-among-none [] = s[]
-among-none (t ∷ ts) = skip (among-none ts)
-
-abbrev pub hits : ℕ → List ℕ → ℕ
-hits j [] = 0
-hits j (t ∷ ts) = (if eqb t j then 1 else 0) + hits j ts
 
 among-count : {S : Type 0} (j : ℕ) {L : List (Arrow S)} {ts : List ℕ} → Among L ts → count j L ≤ hits j ts
 unfolding arriving
@@ -240,160 +229,108 @@ among-count j (keep {t} {x} {L} {ts} a) = go (eqb t j) (among-count j a)
     go true h = omega arith
     go false h = omega arith
 
-hits-all : {P : ℕ → Type 0} (j : ℕ) {ts : List ℕ} → All P ts → 1 ≤ hits j ts → P j
-hits-all j l[] h = absurd (omega arith)
-hits-all {P} j (_l∷_ {x} {xs} p ps) h = go (eqb x j) refl (λ w. hits-all j ps w) h
+---- Flow
+
+-- the two parts of a rule that passes
+pub flow-found : (code : List Instruction) (n i : ℕ) (ins : Instruction) (past : Option Bool) → flowRule code n i ins past ≡ passed
+    → (2 ≤ i → arrivals code i ≡ 1) × (leavesRight (length code) i ins (orElse past false) ≡ true)
+unfolding flowRule arrivesRight
+flow-found code n i ins past e =
+    let r = required (arrivesRight code i && leavesRight (length code) i ins (orElse past false)) _ e in (
+      λ h. one (eqb i 1) refl h (and-left (arrivesRight code i) (leavesRight (length code) i ins (orElse past false)) r),
+      and-right (arrivesRight code i) (leavesRight (length code) i ins (orElse past false)) r,
+    )
   where
-    go : (b : Bool) → eqb x j ≡ b → (1 ≤ hits j xs → P j) → 1 ≤ (if b then 1 else 0) + hits j xs → P j
-    go true e ih h = rw (eqb-true x j e) at p
-    go false e ih h = ih (omega arith)
+    one : (t : Bool) → eqb i 1 ≡ t → 2 ≤ i → (t || eqb (arrivals code i) 1) ≡ true → arrivals code i ≡ 1
+    one true q h w = absurd (omega (arith, eqb-true i 1 q))
+    one false q h w = eqb-true (arrivals code i) 1 w
 
-module _ (n last : ℕ) where
-  -- what leaves an instruction: to each of its targets, which lie ahead
-  Leaves : ℕ → Instruction → List (Arrow Bool) → Type 0
-  Leaves i ins L = ((j : ℕ) → hits j (targets i ins) ≡ count j L) × All (λ j. (i < j) × (j ≤ last)) (targets i ins)
+-- a branch's target is right, and nothing made has been passed
+pub branch-leaves : (last i c b : ℕ) (past : Bool) → leavesRight last i (Branch c b) past ≡ true → (i + 2 ≤ b) × (b ≤ last)
+    × (past ≡ false)
+unfolding leavesRight
+branch-leaves last i c b past e =
+    let w = and-left (within (i + 2) last b) (not past) e in (
+      leb-true _ _ (and-left (leb (i + 2) b) (leb b last) w),
+      leb-true _ _ (and-right (leb (i + 2) b) (leb b last) w),
+      not-true past (and-right (within (i + 2) last b) (not past) e),
+    )
 
-  onward-leaves : (i : ℕ) (b : Bool) (ins : Instruction) {L : List (Arrow Bool)} → targets i ins ≡ suc i ∷ [] → flowOn n last i b ≡ found L
-      → Leaves i ins L
-  unfolding Leaves flowOn arriving
-  onward-leaves i b ins t e =
-      let r = after-required (ltb i last) _ _ e in
-      rw (t, ← found-inj (r .1)) ((λ j. one j (eqb (suc i) j)), _l∷_ {x = suc i} (omega arith, ltb-true i last (r .0)) l[])
-    where
-      one : (j : ℕ) (t : Bool) → (if t then 1 else 0) + 0 ≡ length (if t then b ∷ [] else [])
-      one j true = refl
-      one j false = refl
+-- an instruction that leaves rightly leads ahead
+pub leaves-ahead : (last i : ℕ) (ins : Instruction) (past : Bool) → leavesRight last i ins past ≡ true
+    → All (λ j. (i < j) × (j ≤ last)) (targets i ins)
+unfolding leavesRight
+leaves-ahead last i (Load a) past e = _l∷_ {x = suc i} (omega arith, ltb-true i last e) l[]
+leaves-ahead last i (Build c) past e = _l∷_ {x = suc i} (omega arith, ltb-true i last e) l[]
+leaves-ahead last i (Call g) past e = _l∷_ {x = suc i} (omega arith, ltb-true i last e) l[]
+leaves-ahead last i (Branch c b) past e =
+    let w = branch-leaves last i c b past e in
+    _l∷_ {x = suc i} (omega arith, omega (arith, w .0, w .1)) (_l∷_ {x = b} (omega (arith, w .0), w .1) l[])
+leaves-ahead last i Return past e = l[]
+leaves-ahead last i Stop past e = l[]
 
-  from-leaves : (i : ℕ) (ins : Instruction) (past : Bool) {L : List (Arrow Bool)} → flowFrom n last i ins past ≡ found L → Leaves i ins L
-  unfolding Leaves flowFrom arriving
-  from-leaves i (Load a) past e = onward-leaves i past (Load a) refl e
-  from-leaves i (Build c) past e = onward-leaves i true (Build c) refl e
-  from-leaves i (Call g) past e = onward-leaves i true (Call g) refl e
-  from-leaves i (Branch c b) past e =
-      let r = after-required (within (i + 2) last b && not past) _ _ e in
-      let w = and-left (within (i + 2) last b) (not past) (r .0) in
-      let lo : i + 2 ≤ b = leb-true _ _ (and-left (leb (i + 2) b) (leb b last) w) in
-      let hi : b ≤ last = leb-true _ _ (and-right (leb (i + 2) b) (leb b last) w) in
-      rw (← found-inj (r .1))
-      ((λ j. two j (eqb (suc i) j) (eqb b j)), _l∷_ {x = suc i} (omega arith, omega arith) (_l∷_ {x = b} (omega arith, hi) l[]))
-    where
-      two : (j : ℕ) (t u : Bool) → (if t then 1 else 0) + ((if u then 1 else 0) + 0)
-          ≡ length (if t then past ∷ (if u then past ∷ [] else []) else (if u then past ∷ [] else []))
-      two j true true = refl
-      two j true false = refl
-      two j false true = refl
-      two j false false = refl
-  from-leaves i Return past e = rw (← found-inj e) ((λ j. refl), l[])
-  from-leaves i Stop past e = rw (← found-inj e) ((λ j. refl), l[])
+pub passing-found : (i : ℕ) (ins : Instruction) (past : Bool) → (L : List (Arrow Bool)) × (passing i ins past ≡ found L)
+unfolding passing
+passing-found i (Load a) past = ((suc i, past) ∷ [], refl)
+passing-found i (Build c) past = ((suc i, true) ∷ [], refl)
+passing-found i (Call g) past = ((suc i, true) ∷ [], refl)
+passing-found i (Branch c b) past = ((suc i, past) ∷ (b, past) ∷ [], refl)
+passing-found i Return past = ([], refl)
+passing-found i Stop past = ([], refl)
 
-  -- just one arrives
-  flow-one : (i : ℕ) (ins : Instruction) (xs : List Bool) {L : List (Arrow Bool)} → flowRule n last i ins xs ≡ found L → (length xs ≤ 1)
-      × Leaves i ins L
-  unfolding flowRule
-  flow-one i ins [] e = absurd (refused-found e)
-  flow-one i ins (x ∷ []) e = (le-refl 1, from-leaves i ins x e)
-  flow-one i ins (x ∷ y ∷ xs) e = absurd (refused-found e)
+passing-targets : (i : ℕ) (ins : Instruction) (past : Bool) (L : List (Arrow Bool)) → passing i ins past ≡ found L
+    → map (λ (a : Arrow Bool). a .0) L ≡ targets i ins
+unfolding passing
+passing-targets i (Load a) past L e = rw (← found-inj e)
+passing-targets i (Build c) past L e = rw (← found-inj e)
+passing-targets i (Call g) past L e = rw (← found-inj e)
+passing-targets i (Branch c b) past L e = rw (← found-inj e)
+passing-targets i Return past L e = rw (← found-inj e)
+passing-targets i Stop past L e = rw (← found-inj e)
 
-  -- it leaves to each of its targets just once for each time it names it
-  pub flow-counts : (i : ℕ) (ins : Instruction) (xs : List Bool) {L : List (Arrow Bool)} → flowRule n last i ins xs ≡ found L → (j : ℕ)
-      → hits j (targets i ins) ≡ count j L
-  unfolding Leaves
-  flow-counts i ins xs e j = flow-one i ins xs e .1 .0 j
+count-hits : {R : Type 0} (j : ℕ) (M : List (Arrow R)) → count j M ≡ hits j (map (λ (a : Arrow R). a .0) M)
+unfolding arriving
+count-hits j [] = refl
+count-hits {R} j (a ∷ M) = one (eqb (a .0) j) (count-hits j M)
+  where
+    one : (t : Bool) → count j M ≡ hits j (map (λ (b : Arrow R). b .0) M)
+        → length (if t then a .1 ∷ arriving j M else arriving j M) ≡ (if t then 1 else 0) + hits j (map (λ (b : Arrow R). b .0) M)
+    one true h = omega arith
+    one false h = omega arith
 
-  -- and its targets lie ahead
-  pub flow-ahead : (i : ℕ) (ins : Instruction) (xs : List Bool) {L : List (Arrow Bool)} → flowRule n last i ins xs ≡ found L
-      → All (λ j. (i < j) × (j ≤ last)) (targets i ins)
-  unfolding Leaves
-  flow-ahead i ins xs e = flow-one i ins xs e .1 .1
+pub passing-all : (i : ℕ) (ins : Instruction) (past : Bool) (L : List (Arrow Bool)) → passing i ins past ≡ found L → (j : ℕ)
+    → count j L ≡ hits j (targets i ins)
+passing-all i ins past L e j = count-hits j L ∙ ap (hits j) (passing-targets i ins past L e)
 
-  pub flow-single : (i : ℕ) (ins : Instruction) (xs : List Bool) (L : List (Arrow Bool)) → flowRule n last i ins xs ≡ found L → (p : Bool)
-      × (xs ≡ p ∷ []) × (flowFrom n last i ins p ≡ found L)
-  unfolding flowRule
-  flow-single i ins [] L e = absurd (refused-found e)
-  flow-single i ins (x ∷ []) L e = (x, refl, e)
-  flow-single i ins (x ∷ y ∷ xs) L e = absurd (refused-found e)
-
-  onward-found : (i : ℕ) (b : Bool) {L : List (Arrow Bool)} → flowOn n last i b ≡ found L → L ≡ (suc i, b) ∷ []
-  unfolding flowOn
-  onward-found i b e = sym (found-inj (after-required (ltb i last) _ _ e .1))
-
-  pub flow-load : (i a : ℕ) (p : Bool) {L : List (Arrow Bool)} → flowFrom n last i (Load a) p ≡ found L → L ≡ (suc i, p) ∷ []
-  unfolding flowFrom
-  flow-load i a p e = onward-found i p e
-
-  pub flow-build : (i c : ℕ) (p : Bool) {L : List (Arrow Bool)} → flowFrom n last i (Build c) p ≡ found L → L ≡ (suc i, true) ∷ []
-  unfolding flowFrom
-  flow-build i c p e = onward-found i true e
-
-  pub flow-call : (i g : ℕ) (p : Bool) {L : List (Arrow Bool)} → flowFrom n last i (Call g) p ≡ found L → L ≡ (suc i, true) ∷ []
-  unfolding flowFrom
-  flow-call i g p e = onward-found i true e
-
-  pub flow-branch : (i c b : ℕ) (p : Bool) {L : List (Arrow Bool)} → flowFrom n last i (Branch c b) p ≡ found L → (p ≡ false)
-      × (L ≡ (suc i, p) ∷ (b, p) ∷ [])
-  unfolding flowFrom
-  flow-branch i c b p e =
-      let r = after-required (within (i + 2) last b && not p) _ _ e in
-      (not-true p (and-right (within (i + 2) last b) (not p) (r .0)), sym (found-inj (r .1)))
-    where
-      not-true : (p : Bool) → not p ≡ true → p ≡ false
-      not-true true h = absurd (false-true h)
-      not-true false h = refl
-
-  pub flow-among : (i : ℕ) (ins : Instruction) (p : Bool) (L : List (Arrow Bool)) → flowFrom n last i ins p ≡ found L
-      → Among L (targets i ins)
-  unfolding flowFrom
-  flow-among i (Load a) p L e = rw (flow-load i a p e) (keep s[])
-  flow-among i (Build c) p L e = rw (flow-build i c p e) (keep s[])
-  flow-among i (Call g) p L e = rw (flow-call i g p e) (keep s[])
-  flow-among i (Branch c b) p L e = rw (flow-branch i c b p e .1) (keep (keep s[]))
-  flow-among i Return p L e = rw (← found-inj e) s[]
-  flow-among i Stop p L e = rw (← found-inj e) s[]
-
-  pub flow-once : {code : List Instruction} {i : ℕ} {A : List (Arrow Bool)} {T : List (List Bool)} → Walks (flowRule n last) i A code T
-      → (d : ℕ) → length (getD T d []) ≤ 1
-  flow-once w[] d = omega arith
-  flow-once (w∷ {i} {A} {ins} L e w) zero = flow-one i ins (arriving i A) e .0
-  flow-once (w∷ L e w) (suc d) = flow-once w d
-
-  pub flow-forward : (i : ℕ) (ins : Instruction) (xs : List Bool) (L : List (Arrow Bool)) → flowRule n last i ins xs ≡ found L → (j : ℕ)
-      → 1 ≤ count j L → (i < j) × (j ≤ last)
-  unfolding Leaves
-  flow-forward i ins xs L e j h =
-      let r = flow-one i ins xs e .1 in
-      hits-all j (r .1) (rw (r .0 j) h)
-
-  pub flow-follows : {R : Type 0} (rule : ℕ → Instruction → R → Tried (List (Arrow R)))
-      → ((i : ℕ) (ins : Instruction) (y : R) (M : List (Arrow R)) → rule i ins y ≡ found M → Among M (targets i ins))
-      → (i : ℕ) (ins : Instruction) (xs : List Bool) (ys : List R) (L : List (Arrow Bool)) (M : List (Arrow R))
-      → flowRule n last i ins xs ≡ found L → visited rule i ins ys ≡ found M → (j : ℕ) → count j M ≤ count j L
-  unfolding Leaves
-  flow-follows {R} rule among i ins xs ys L M e e′ j = rw (← flow-one i ins xs e .1 .0 j) (among-count j (one ys e′))
-    where
-      one : (ys : List R) → visited rule i ins ys ≡ found M → Among M (targets i ins)
-      one [] h = rw (← found-inj h) (among-none (targets i ins))
-      one (y ∷ ys) h = among i ins y M h
+---- Types and shapes
 
 module _ (s : Program) (n : ℕ) (f : Function) where
-  pub type-among : (i : ℕ) (ins : Instruction) (ts : List ℕ) (M : List (Arrow (List ℕ))) → typeRule s n f i ins ts ≡ found M
-      → Among M (targets i ins)
-  type-among i (Load a) ts M e = rw (type-load s n f i a ts e .2) (keep s[])
-  type-among i (Build c) ts M e = rw (type-build s n f i c ts e .4) (keep s[])
-  type-among i (Call g) ts M e = rw (type-call s n f i g ts e .4) (keep s[])
-  type-among i (Branch c b) ts M e = rw (type-branch s n f i c b ts e .4) (keep (keep s[]))
-  type-among i Return ts M e = rw (type-return s n f i ts e .2) s[]
-  type-among i Stop ts M e = rw (type-stop s n f i ts e) s[]
+  type-targets : (i : ℕ) (ins : Instruction) (ts : List ℕ) (M : List (Arrow (List ℕ))) → typeRule s n f i ins ts ≡ found M
+      → map (λ (a : Arrow (List ℕ)). a .0) M ≡ targets i ins
+  type-targets i (Load a) ts M e = rw (type-load s n f i a ts e .2)
+  type-targets i (Build c) ts M e = rw (type-build s n f i c ts e .4)
+  type-targets i (Call g) ts M e = rw (type-call s n f i g ts e .4)
+  type-targets i (Branch c b) ts M e = rw (type-branch s n f i c b ts e .4)
+  type-targets i Return ts M e = rw (type-return s n f i ts e .2)
+  type-targets i Stop ts M e = rw (type-stop s n f i ts e)
 
+  -- types are handed on to every target
+  pub type-all : (i : ℕ) (ins : Instruction) (ts : List ℕ) (M : List (Arrow (List ℕ))) → typeRule s n f i ins ts ≡ found M → (j : ℕ)
+      → count j M ≡ hits j (targets i ins)
+  type-all i ins ts M e j = count-hits j M ∙ ap (hits j) (type-targets i ins ts M e)
+
+module _ (s : Program) (n : ℕ) (f : Function) where
   branch-among : (i : ℕ) (sh : Shape) (rest : List Expression) (c args b : ℕ) (es : List Expression) (M : List (Arrow Shape))
       → branchOn s n f i sh rest c args b es ≡ found M → Among M (suc i ∷ b ∷ [])
   branch-among i sh rest c args b [] M e = absurd (branch-none s n f i sh rest c args b e)
   branch-among i sh rest c args b (node (variable k) ts ∷ more) M e =
       rw (branch-variable s n f i sh rest c args b k ts more e .1) (keep (keep s[]))
-  branch-among i sh rest c args b (node (built d) ts ∷ more) M e = rw (branch-built s n f i sh rest c args b d ts more e) (one (eqb d c))
+  branch-among i sh rest c args b (node (known d) ts ∷ more) M e = rw (branch-known s n f i sh rest c args b d ts more e) (one (eqb d c))
     where
       one : (t : Bool) → Among ((if t then (suc i, withStack sh (rest ++ toList ts)) else (b, sh)) ∷ []) (suc i ∷ b ∷ [])
       one true = keep (skip s[])
       one false = skip (keep s[])
+  branch-among i sh rest c args b (node (built d) ts ∷ more) M e = absurd (branch-built s n f i sh rest c args b d ts more e)
   branch-among i sh rest c args b (node (called g) ts ∷ more) M e = absurd (branch-called s n f i sh rest c args b g ts more e)
 
   from-among : (i : ℕ) (ins : Instruction) (sh : Shape) (M : List (Arrow Shape)) → shapeFrom s n f i ins sh ≡ found M
@@ -408,6 +345,39 @@ module _ (s : Program) (n : ℕ) (f : Function) where
   from-among i Return sh M e = rw (← found-inj e) s[]
   from-among i Stop sh M e = rw (← found-inj e) s[]
 
-  pub shape-among : (i : ℕ) (ins : Instruction) (sh : Shape) (M : List (Arrow Shape)) → shapeRule s n f i ins sh ≡ found M
-      → Among M (targets i ins)
-  shape-among i ins sh M e = from-among i ins sh M (shape-covered s n f i ins sh e .1)
+  -- shapes to some of them
+  pub shape-among : (i : ℕ) (ins : Instruction) (sh : Shape) (M : List (Arrow Shape)) → shapeRule s n f i ins sh ≡ found M → (j : ℕ)
+      → count j M ≤ hits j (targets i ins)
+  shape-among i ins sh M e j = among-count j (from-among i ins sh M (shape-covered s n f i ins sh e .1))
+
+  -- and the bound of the root goes with them
+  branch-bound : (i : ℕ) (sh : Shape) (rest : List Expression) (c args b : ℕ) (es : List Expression) (M : List (Arrow Shape))
+      → branchOn s n f i sh rest c args b es ≡ found M → All (λ (a : Arrow Shape). a .1 .bound ≡ sh .bound) M
+  unfolding splitVariable
+  branch-bound i sh rest c args b [] M e = absurd (branch-none s n f i sh rest c args b e)
+  branch-bound i sh rest c args b (node (variable k) ts ∷ more) M e =
+      rw (branch-variable s n f i sh rest c args b k ts more e .1) (refl l∷ refl l∷ l[])
+  branch-bound i sh rest c args b (node (known d) ts ∷ more) M e = rw (branch-known s n f i sh rest c args b d ts more e) (one (eqb d c))
+    where
+      one : (t : Bool) → All (λ (a : Arrow Shape). a .1 .bound
+          ≡ sh .bound) ((if t then (suc i, withStack sh (rest ++ toList ts)) else (b, sh)) ∷ [])
+      one true = refl l∷ l[]
+      one false = refl l∷ l[]
+  branch-bound i sh rest c args b (node (built d) ts ∷ more) M e = absurd (branch-built s n f i sh rest c args b d ts more e)
+  branch-bound i sh rest c args b (node (called g) ts ∷ more) M e = absurd (branch-called s n f i sh rest c args b g ts more e)
+
+  from-bound : (i : ℕ) (ins : Instruction) (sh : Shape) (M : List (Arrow Shape)) → shapeFrom s n f i ins sh ≡ found M
+      → All (λ (a : Arrow Shape). a .1 .bound ≡ sh .bound) M
+  unfolding shapeFrom
+  from-bound i (Load a) sh M e = rw (shape-load s n f i a sh e .2) (refl l∷ l[])
+  from-bound i (Build c) sh M e = rw (shape-build s n f i c sh e .4) (refl l∷ l[])
+  from-bound i (Call g) sh M e = rw (shape-call s n f i g sh e .4) (refl l∷ l[])
+  from-bound i (Branch c b) sh M e =
+      let r = shape-branch s n f i c b sh e in
+      branch-bound i sh (r .2 .0) c (length (r .0 .arguments)) b (r .2 .1) M (r .4)
+  from-bound i Return sh M e = rw (← found-inj e) l[]
+  from-bound i Stop sh M e = rw (← found-inj e) l[]
+
+  pub shape-bound : (i : ℕ) (ins : Instruction) (sh : Shape) (M : List (Arrow Shape)) → shapeRule s n f i ins sh ≡ found M
+      → All (λ (a : Arrow Shape). a .1 .bound ≡ sh .bound) M
+  shape-bound i ins sh M e = from-bound i ins sh M (shape-covered s n f i ins sh e .1)

@@ -8,31 +8,28 @@ use Prim.Native.Nat.{ℕ, zero, suc, _+_, _≤_, _<_}
 use lib.ListN.{length}
 use lib.Dec.{leb}
 use borrow.Author.Tests.{leb-true, leb-false, le-leb, lt-leb}
-use Rattle.rules.specs.Base.{_>>=_ as _>>=ᵗ_}
-use Rattle.rules.specs.Base.{Refusal, refusal, found, refused, Check, passed, require}
+use Rattle.rules.specs.Base.{_>>=_ as _>>=ᵗ_, Refusal, refusal, found, refused, Check, passed, require}
 use Rattle.rules.specs.Program.{Function, Program, function}
 use Rattle.rules.specs.Machine.{State, start, current, step}
-use Rattle.rules.specs.Values.{Typed}
 use Rattle.rules.specs.Check.{checked}
 use Rattle.rules.specs.Prefix.{argumentsRight, values}
 use Rattle.rules.specs.Run.{Lent, Tables, usable, Ending, finished, aborted, refusedWith, answer, heights, fits, cellsTaken}
 use Rattle.rules.specs.Run.{refusalAt, endOf, Point, stepWithin, continued, loaded, started, deliveredIn, delivered, run}
 use Rattle.rules.specs.Promise.{takes, Room, NoRoom, frames, stack, heap}
 use Rattle.rules.proofs.ListLaws.{none-some}
-use Rattle.rules.proofs.TriedLaws.{bind-found, found-inj, refused-found, after-some, after-required, required}
-use Rattle.rules.proofs.PrefixLaws.{arguments-typed}
+use Rattle.rules.proofs.TriedLaws.{refused-found, after-required, required}
 
 ---- Room in the tables
 
 -- where the tables have room for a state, and where not
-fits-found : (m : Tables) (st : State) (cells f i : ℕ) {u : Unit {0}} → fits m st cells f i ≡ found u → Room m st cells
+pub fits-found : (m : Tables) (st : State) (cells f i : ℕ) {u : Unit {0}} → fits m st cells f i ≡ found u → Room m st cells
 unfolding fits
 fits-found m st cells f i e =
     let a = after-required (leb (length st) (m .frames)) _ _ e in
     let b = after-required (leb (heights st) (m .stack)) _ _ (a .1) in
     (leb-true _ _ (a .0), leb-true _ _ (b .0), leb-true _ _ (required (leb cells (m .cells)) _ (b .1)))
 
-fits-refused : (m : Tables) (st : State) (cells f i : ℕ) {r : Refusal} → fits m st cells f i ≡ refused r → (number : ℕ)
+pub fits-refused : (m : Tables) (st : State) (cells f i : ℕ) {r : Refusal} → fits m st cells f i ≡ refused r → (number : ℕ)
     × NoRoom m st cells number × (r ≡ refusal number f i)
 unfolding fits
 fits-refused m st cells f i {r} e = one (leb (length st) (m .frames)) refl (leb (heights st) (m .stack)) refl (leb cells (m .cells)) refl e
@@ -102,20 +99,6 @@ pub started-loaded : (s : Program) (m : Tables) (budget entry : ℕ) (args : Lis
     → started s m budget entry args ≡ continued s m budget 0 st (length args)
 unfolding started
 started-loaded s m budget entry args e = rw (e, started)
-
--- what begins: a function, few bytes, values of its types, and the frame of them
-pub loaded-parts : (s : Program) (m : Tables) (entry : ℕ) (args : List ℕ) {st : State} → loaded s m entry args ≡ found st
-    → (f : Function) × (function s entry ≡ some f) × (length args ≤ 65535) × Typed s (values s args) (f .parameters)
-    × (start entry (values s args) ≡ st) × Room m st (length args)
-unfolding loaded
-loaded-parts s m entry args e =
-    let k = after-some (function s entry) _ _ e in
-    let f = k .0 in
-    let a = bind-found (argumentsRight s f args) _ (k .2) in
-    let b = arguments-typed s f args (a .1) in
-    let c = bind-found (fits m (start entry (values s args)) (length args) entry 1) _ (a .2) in
-    let same = found-inj (c .2) in
-    (f, k .1, b .0, b .1, same, rw (← same) (fits-found m (start entry (values s args)) (length args) entry 1 (c .1)))
 
 module _ (s : Program) (m : Tables) (entry : ℕ) (bytes : List ℕ) where
   pub load-no-entry : function s entry ≡ none → loaded s m entry bytes ≡ refused (refusal 11 entry 0)

@@ -1,20 +1,22 @@
--- What a check that passes says of its parts.
-use mathlib.Core.Path.{_≡_, refl}
+-- What a check that passes or refuses says of its parts.
+use mathlib.Core.Path.{_≡_, refl, sym, ap, _∙_}
 use mathlib.Core.List.{List, [], _∷_}
 use mathlib.Core.Option.{Option, none, some}
 use mathlib.Core.Bool.{Bool, true, false}
-use Prim.Native.Nat.{ℕ, zero, suc, _+_}
+use mathlib.Core.Logic.{_⊎_, inl, inr, _↔_}
+use Prim.Native.Nat.{ℕ}
 use native.Mathlib.Omega.{arith}
-use native.Mathlib.Nat.{add-zero, add-suc, suc-add}
-use lib.ListN.{getElem?}
 use lib.Dec.{eqb}
 use borrow.Author.Tests.{eqb-true}
-use Rattle.rules.specs.Base.{Refusal, Tried, found, refused, _>>=_, require, each, orRefuse}
+use Rattle.rules.specs.Base.{Refusal, Tried, found, refused, _>>=_, require, orRefuse, only, passed}
 use Rattle.rules.specs.Types.{same}
-use Rattle.rules.proofs.ListLaws.{none-some, some-inj, false-true, and-left, and-right}
+use Rattle.rules.proofs.ListLaws.{false-true, and-left, and-right}
 
 pub refused-found : {A : Type 0} {r : Refusal} {a : A} → _≡_ {A = Tried A} (refused r) (found a) → ⊥
 refused-found e = let z : _≡_ {A = ℕ} 0 1 = cc in omega arith
+
+pub refused-inj : {A : Type 0} {r q : Refusal} → _≡_ {A = Tried A} (refused r) (refused q) → r ≡ q
+refused-inj e = cc
 
 pub found-inj : {A : Type 0} {a b : A} → _≡_ {A = Tried A} (found a) (found b) → a ≡ b
 found-inj e = cc
@@ -67,6 +69,47 @@ module _ (P : Refusal → Type 0) where
   refuses-some none r f p h = p
   refuses-some (some a) r f p h = h a
 
+pub require-refused : (b : Bool) {q r : Refusal} → require b q ≡ refused r → (b ≡ false) × (q ≡ r)
+require-refused true e = absurd (refused-found (sym e))
+require-refused false e = (refl, refused-inj e)
+
+pub found-required : {A : Type 0} (b : Bool) (q : Refusal) (a : A) {r : Refusal} → (require b q >>= (λ _. found a)) ≡ refused r
+    → (b ≡ false) × (q ≡ r)
+found-required true q a e = absurd (refused-found (sym e))
+found-required false q a e = (refl, refused-inj e)
+
+-- a bind that refuses: its first part does, or it finds something and the rest does
+pub data Stops {A B : Type 0} (t : Tried A) (f : A → Tried B) (r : Refusal) : Type 0 where
+  at-once : t ≡ refused r → Stops t f r
+  after : (a : A) → t ≡ found a → f a ≡ refused r → Stops t f r
+
+pub bind-refused : {A B : Type 0} (t : Tried A) (f : A → Tried B) {r : Refusal} → (t >>= f) ≡ refused r → Stops t f r
+bind-refused (found a) f e = after a refl e
+bind-refused (refused q) f e = at-once (ap refused (refused-inj e))
+
+-- what refuses does not pass
+pub only-found : {A : Type 0} (t : Tried A) → only t ≡ passed → (a : A) × (t ≡ found a)
+only-found (found a) e = (a, refl)
+only-found (refused r) e = absurd (refused-found e)
+
+pub only-refused : {A : Type 0} (t : Tried A) {r : Refusal} → only t ≡ refused r → t ≡ refused r
+only-refused (found a) e = absurd (refused-found (sym e))
+only-refused (refused q) e = ap refused (refused-inj e)
+
+-- where F holds of a refusal it is answered, where G holds of a thing it is found, and one of the two always holds: then F and G say just
+-- what is answered
+module _ {A : Type 0} (t : Tried A) (F : Refusal → Type 0) (G : A → Type 0) where
+  pub answers-exactly : ((r : Refusal) → F r → t ≡ refused r) → ((a : A) → G a → t ≡ found a) → ((r : Refusal) × F r) ⊎ ((a : A) × G a)
+      → ((r : Refusal) → t ≡ refused r ↔ F r) × ((a : A) → t ≡ found a ↔ G a)
+  answers-exactly fails finds (inl (q, w)) = (
+    (λ r. ((λ e. let same : q ≡ r = cc (fails q w) in rw same at w), fails r)),
+    λ a. ((λ e. absurd (refused-found (sym (fails q w) ∙ e))), finds a),
+  )
+  answers-exactly fails finds (inr (b, w)) = (
+    (λ r. ((λ e. absurd (refused-found (sym e ∙ finds b w))), fails r)),
+    λ a. ((λ e. rw (found-inj (sym (finds b w) ∙ e)) at w), finds a),
+  )
+
 pub same-true : (xs ys : List ℕ) → same xs ys ≡ true → xs ≡ ys
 unfolding same
 same-true [] [] e = refl
@@ -76,16 +119,3 @@ same-true (x ∷ xs) (y ∷ ys) e =
     let p : x ≡ y = eqb-true x y (and-left (eqb x y) (same xs ys) e) in
     let q : xs ≡ ys = same-true xs ys (and-right (eqb x y) (same xs ys) e) in
     cc
-
--- a rule that passes for each element
-pub each-found : {A B : Type 0} (rule : ℕ → A → Tried B) (n : ℕ) (xs : List A) {u : Unit {0}} → each rule n xs ≡ found u → (k : ℕ) {x : A}
-    → getElem? xs k ≡ some x → (b : B) × (rule (n + k) x ≡ found b)
-unfolding each
-each-found rule n [] e k h = none-some h
-each-found rule n (y ∷ xs) e zero h =
-    let p = bind-found (rule n y) _ e in
-    (p .0, rw (add-zero n, ← some-inj h) (p .1))
-each-found rule n (y ∷ xs) e (suc k) h =
-    let p = bind-found (rule n y) _ e in
-    let q = each-found rule (suc n) xs (p .2) k h in
-    (q .0, rw (add-suc n k, ← suc-add n k) (q .1))

@@ -1,7 +1,9 @@
 -- What every rule uses: a refusal, an answer or a refusal, tests on lists, numbers in bytes.
+use mathlib.Core.Path.{_≡_}
 use mathlib.Core.List.{List, [], _∷_}
 use mathlib.Core.Option.{Option, none, some}
 use mathlib.Core.Bool.{Bool, true, false, _&&_, _||_}
+use mathlib.Core.Logic.{_↔_}
 use Prim.Native.Nat.{ℕ, zero, suc, _+_, _*_}
 use lib.ListN.{getD}
 use lib.Dec.{leb, eqb}
@@ -32,6 +34,10 @@ Check = Tried (Unit {0})
 
 abbrev pub passed : Check
 passed = found tt
+
+-- a check passes just where the one holds, and refuses with r just where the other holds of r
+abbrev pub Decides : Check → Type 0 → (Refusal → Type 0) → Type 0
+Decides t R F = (t ≡ passed ↔ R) × ((r : Refusal) → t ≡ refused r ↔ F r)
 
 abbrev pub require : Bool → Refusal → Check
 require true r = passed
@@ -66,7 +72,7 @@ forEach rule k (suc n) = do
   forEach rule (suc k) n
 
 -- a rule for each element of a list, numbered from k on: the first refusal
-unfoldable pub each : {A B : Type 0} → (ℕ → A → Tried B) → ℕ → List A → Check
+unfoldable pub each : {A : Type 0} → (ℕ → A → Check) → ℕ → List A → Check
 each rule k [] = passed
 each rule k (x ∷ xs) = do
   _ ← rule k x

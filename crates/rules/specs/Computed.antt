@@ -8,13 +8,13 @@ use Rattle.rules.specs.Records.{constructorOf, alternativeOf, instructio
 use Rattle.rules.specs.Declarations.{weightRight, constructorRule, signatureRule, declarationsRight, counted, argumentRule, boundRule}
 use Rattle.rules.specs.Declarations.{boundsRight}
 use Rattle.rules.specs.Stacks.{split}
-use Rattle.rules.specs.Walk.{arriving, walk}
-use Rattle.rules.specs.Flow.{flowOn, flowFrom, flowRule, flowOf, flowRight}
+use Rattle.rules.specs.Walk.{sources, arrivingFrom, arrivals, origin, arriving, states, stateAt, along, judged}
+use Rattle.rules.specs.Flow.{passing, leavesRight, arrivesRight, flowRule, flowOf, flowRight}
 use Rattle.rules.specs.Types.{same, below, typesOn, typeRule, typesOf, typesRight}
 use Rattle.rules.specs.Expressions.{variables, replace}
 use Rattle.rules.specs.Forms.{constantOnly, variableOnly, plusTimes, added, flatMap, substituted, intoBound, builtForm, calledForm}
 use Rattle.rules.specs.Forms.{formOf, atMost, matches, covers}
-use Rattle.rules.specs.Shapes.{splitVariable, coveredAt, enter, branchOn, shapeFrom, shapeRule, startShape, shapesOf, sizesRight}
+use Rattle.rules.specs.Shapes.{splitVariable, coveredAt, enter, branchOn, shapeFrom, shapeRule, startShape, sizesOf, sizesRight}
 use Rattle.rules.specs.Check.{checked, verdictOf}
 use Rattle.rules.specs.Machine.{current, answered, execute, step, after, returned, resultOf}
 use Rattle.rules.specs.Prefix.{readByte, readBytes, argumentsRight, arityOf, values, written}
@@ -29,12 +29,12 @@ unfolding numbered forEach each
     headerRight declarationRight constructorRight headRight alternativeRight operation headOffset recordRight functionRight
     constructorsRight functionsRight nothingLeft recordsRight constructorOf alternativeOf instructionOf functionOf programOf decode
     weightRight constructorRule signatureRule declarationsRight counted argumentRule boundRule boundsRight
-    split arriving walk
-    flowOn flowFrom flowRule flowOf flowRight
+    split sources arrivingFrom arrivals origin arriving states stateAt along judged
+    passing leavesRight arrivesRight flowRule flowOf flowRight
     same below typesOn typeRule typesOf typesRight
     variables replace
     constantOnly variableOnly plusTimes added flatMap substituted intoBound builtForm calledForm formOf atMost matches covers
-    splitVariable coveredAt enter branchOn shapeFrom shapeRule startShape shapesOf sizesRight
+    splitVariable coveredAt enter branchOn shapeFrom shapeRule startShape sizesOf sizesRight
     checked verdictOf
     current answered execute step after returned resultOf
     readByte readBytes argumentsRight arityOf values written

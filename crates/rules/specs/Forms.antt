@@ -9,7 +9,7 @@ use Rattle.rules.specs.declared.records.Alternative.{Alternative}
 use Rattle.rules.specs.Base.{isZero, all, any}
 use Rattle.rules.specs.Program.{Constructor, Function, Program, constructor, function}
 use Rattle.rules.specs.Tree.{Trees, node, nil, cons}
-use Rattle.rules.specs.Expressions.{Symbol, variable, built, called, Expression}
+use Rattle.rules.specs.Expressions.{Symbol, variable, known, built, called, Expression}
 
 -- "A form is a list of alternatives, each 16 coefficients and a constant"
 abbrev pub Form : Type 0
@@ -64,6 +64,7 @@ module _ (s : Program) where
   unfoldable mutual
     pub formOf : Expression → Form
     formOf (node (variable k) ts) = variableOnly k ∷ []
+    formOf (node (known c) ts) = builtForm (constructor s c) (formsOf ts)
     formOf (node (built c) ts) = builtForm (constructor s c) (formsOf ts)
     formOf (node (called g) ts) = calledForm (function s g) (formsOf ts)
 

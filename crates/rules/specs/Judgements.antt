@@ -1,26 +1,20 @@
 -- 001's rules as it prints them: relations on whole tables, beside the walks that compute the tables.
 -- `check-exact` of proofs/Judgements.antt shows that the check accepts just where these relations and document 01's limits hold.
 use mathlib.Core.Path.{_≡_}
-use mathlib.Core.List.{List, _++_}
+use mathlib.Core.List.{List, _++_, map}
 use mathlib.Core.Option.{Option, some}
-use mathlib.Core.Bool.{true}
-use mathlib.Core.Logic.{_↔_}
 use Prim.Native.Nat.{ℕ, suc, _+_, _≤_, _<_}
-use lib.ListN.{length}
+use lib.ListN.{length, getD}
+use Rattle.rules.specs.declared.records.Alternative.{Alternative}
 use Rattle.rules.specs.declared.records.Instruction.{Instruction}
 use Rattle.rules.specs.declared.records.Instruction.the-variants.{Load, Build, Call, Branch, Return, Stop}
-use Rattle.rules.specs.Base.{found, passed}
-use Rattle.rules.specs.Container.{verify, payload}
+use Rattle.rules.specs.Lists.{All, Any}
 use Rattle.rules.specs.Program.{Constructor, Function, Program, constructor, function}
-use Rattle.rules.specs.Records.{decode}
-use Rattle.rules.specs.Declarations.{declarationsRight, boundsRight}
 use Rattle.rules.specs.Tree.{node, toList, made}
 use Rattle.rules.specs.Stacks.{slot, push}
-use Rattle.rules.specs.Flow.{flowRight}
-use Rattle.rules.specs.Expressions.{Symbol, variable, built, called, Expression}
-use Rattle.rules.specs.Forms.{formOf}
-use Rattle.rules.specs.Shapes.{Shape, withStack, splitVariable, coveredAt, startShape}
-use Rattle.rules.specs.Check.{checked}
+use Rattle.rules.specs.Expressions.{Symbol, variable, known, built, called, Expression}
+use Rattle.rules.specs.Forms.{formOf, intoBound}
+use Rattle.rules.specs.Shapes.{Shape, withStack, splitVariable, startShape}
 
 ---- Table 2, "Well-Typed Instructions", over a sequence T of type stacks, of which places 1 to L count
 
@@ -46,11 +40,24 @@ module _ (s : Program) (f : Function) (T : ℕ → List ℕ) where
   wt i Return = (rest : List ℕ) × (T i ≡ push rest (f .result))
   wt i Stop = Unit {0}
 
-  -- Definition 1, with document 01's limit on the height
-  pub record WellTyped : Type 0 where
+  -- Table 2 at every instruction before m, with document 01's limit on the height
+  pub record TypedBefore (m : ℕ) : Type 0 where
     pub start : T 1 ≡ f .parameters
-    pub instructions : (i : ℕ) (ins : Instruction) → slot i (f .code) ≡ some ins → wt i ins
-    pub low : (i : ℕ) → 1 ≤ i → i ≤ last → length (T i) ≤ 16
+    pub instructions : (i : ℕ) (ins : Instruction) → i < m → slot i (f .code) ≡ some ins → wt i ins
+    pub low : (i : ℕ) → length (T i) ≤ 16
+
+  -- Definition 1
+  abbrev pub WellTyped : Type 0
+  WellTyped = TypedBefore (suc last)
+
+---- "every alternative of every stack entry must be matched by one alternative of the function's own bound at its parameters' current
+---- shapes: no coefficient and no constant exceeds it"
+
+abbrev pub NoMore : Alternative → Alternative → Type 0
+NoMore a b = (a .constant ≤ b .constant) × ((k : ℕ) → getD (a .coefficients) k 0 ≤ getD (b .coefficients) k 0)
+
+abbrev pub Covered : Program → Shape → Type 0
+Covered s x = All (λ e. All (λ a. Any (NoMore a) (intoBound (x .bound) (map (formOf s) (x .parameters)))) (formOf s e)) (x .stack)
 
 ---- Table 3, "Shape Constraints", over σ and E at each visited instruction
 
@@ -65,8 +72,9 @@ module _ (s : Program) (n : ℕ) (f : Function) (S : ℕ → Option Shape) where
   abbrev pub branch-on : ℕ → Shape → List Expression → ℕ → ℕ → ℕ → Expression → Type 0
   branch-on i x rest c args j (node (variable v) ts) =
       (x .count + args ≤ 16) × (S (suc i) ≡ some (splitVariable x rest v c args)) × (S j ≡ some x)
-  branch-on i x rest c args j (node (built d) ts) =
+  branch-on i x rest c args j (node (known d) ts) =
       (d ≡ c → S (suc i) ≡ some (withStack x (rest ++ toList ts))) × ((d ≡ c → ⊥) → S j ≡ some x)
+  branch-on i x rest c args j (node (built d) ts) = ⊥
   branch-on i x rest c args j (node (called g) ts) = ⊥
 
   abbrev pub wsh : ℕ → Instruction → Shape → Type 0
@@ -83,25 +91,12 @@ module _ (s : Program) (n : ℕ) (f : Function) (S : ℕ → Option Shape) where
   wsh i Return x = Unit {0}
   wsh i Stop x = Unit {0}
 
-  -- Definition 2, and Definition 3 with document 01's cover test: at each visited instruction the own bound at the parameters' shapes
-  -- covers every entry
-  pub record WellSized : Type 0 where
+  -- Definition 2 at every visited instruction before m, and Definition 3 with document 01's cover test: the own bound at the parameters'
+  -- shapes covers every entry
+  pub record SizedBefore (m : ℕ) : Type 0 where
     pub start : S 1 ≡ some (startShape f)
-    pub instructions : (i : ℕ) (ins : Instruction) → slot i (f .code) ≡ some ins → (x : Shape) → S i ≡ some x → wsh i ins x
-    pub covered : (i : ℕ) (ins : Instruction) → slot i (f .code) ≡ some ins → (x : Shape) → S i ≡ some x → coveredAt s n f x ≡ true
+    pub instructions : (i : ℕ) (ins : Instruction) → i < m → slot i (f .code) ≡ some ins → (x : Shape) → S i ≡ some x → wsh i ins x
+    pub covered : (i : ℕ) (ins : Instruction) → i < m → slot i (f .code) ≡ some ins → (x : Shape) → S i ≡ some x → Covered s x
 
----- The whole check
-
--- a file holds program s, and it obeys every rule
-pub record Obeys (file : List ℕ) (s : Program) : Type 0 where
-  pub blocks : verify file ≡ passed  -- 1, 2, 3
-  pub records : decode (payload file) ≡ found s  -- 4
-  pub declarations : declarationsRight s ≡ passed  -- 5
-  pub bounds : boundsRight s ≡ passed  -- 6
-  pub flow : flowRight s ≡ passed  -- 7
-  pub types : (n : ℕ) (f : Function) → function s n ≡ some f → (T : ℕ → List ℕ) × WellTyped s f T  -- 8
-  pub sizes : (n : ℕ) (f : Function) → function s n ≡ some f → (S : ℕ → Option Shape) × WellSized s n f S  -- 10 and 9
-
--- the check accepts a file just where it obeys every rule
-abbrev pub CheckExact : Type 0
-CheckExact = (file : List ℕ) (s : Program) → checked file ≡ found s ↔ Obeys file s
+  abbrev pub WellSized : Type 0
+  WellSized = SizedBefore (suc (length (f .code)))

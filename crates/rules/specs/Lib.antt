@@ -17,6 +17,7 @@ pub mod Check
 pub mod Established
 pub mod Machine
 pub mod Values
+pub mod Quasi
 pub mod Prefix
 pub mod Run
 pub mod Memory
@@ -24,6 +25,12 @@ pub mod Answers
 pub mod Roots
 pub mod Computed
 pub mod Cases
+pub mod FileRules
+pub mod DeclarationRules
+pub mod FlowRules
 pub mod Judgements
+pub mod Refusals
+pub mod ArgumentRules
+pub mod PackingRules
 pub mod Promise
 pub mod Facts

@@ -6,23 +6,23 @@ use mathlib.Core.Option.{Option, none, some}
 use Prim.Native.Nat.{ℕ, zero, suc, _+_, _≤_, _<_}
 use lib.ListN.{length}
 use Rattle.rules.specs.Lists.{All}
-use Rattle.rules.specs.Base.{Refusal, refusal, found, refused}
+use Rattle.rules.specs.declared.records.Instruction.the-variants.{Call}
+use Rattle.rules.specs.Base.{Refusal, refusal, found, refused, passed}
 use Rattle.rules.specs.Program.{Function, Program, function}
-use Rattle.rules.specs.Walk.{arrived}
-use Rattle.rules.specs.Types.{typesOf}
+use Rattle.rules.specs.Types.{typesAt}
 use Rattle.rules.specs.Check.{checked}
 use Rattle.rules.specs.Machine.{Value, Frame, State, start, current, step, after, resultOf}
 use Rattle.rules.specs.Values.{size, sizes, Has, Typed, boundAt}
-use Rattle.rules.specs.Prefix.{values, written}
+use Rattle.rules.specs.Prefix.{argumentsRight, values, written}
 use Rattle.rules.specs.Run.{Lent, Tables, usable, Ending, finished, aborted, refusedWith, Outcome, answer, heights, cellsTaken}
-use Rattle.rules.specs.Run.{refusalAt, loaded, run}
+use Rattle.rules.specs.Run.{refusalAt, run}
 
 ---- A state
 
 -- the stack's types that the check worked out at instruction i of function n; their number is "The height worked out at an instruction"
-abbrev pub typesAt : Program → Option Function → ℕ → ℕ → Option (List ℕ)
-typesAt s none n i = none
-typesAt s (some f) n i = arrived (typesOf s n f) i
+abbrev pub workedOut : Program → Option Function → ℕ → ℕ → Option (List ℕ)
+workedOut s none n i = none
+workedOut s (some f) n i = typesAt s n f i
 
 module _ (s : Program) where
   -- a state has given up (stop leaves no frame), has the result, or has a next step
@@ -31,19 +31,25 @@ module _ (s : Program) where
     has-result : (v : Value) → resultOf s st ≡ some v → Lives st
     goes-on : (next : State) → step s st ≡ some next → Lives st
 
-  -- a frame has the height worked out at its instruction, at most 16, and values of the types worked out there, none larger than the limit.
-  -- A waiting frame stands at its call
+  -- a frame has the height worked out at its instruction, at most 16, and values of the types worked out there, none larger than the limit
   pub record Kept (limit : ℕ) (fr : Frame) : Type 0 where
     pub types : List ℕ
-    pub worked-out : typesAt s (function s (fr .function)) (fr .function) (fr .instruction) ≡ some types
+    pub worked-out : workedOut s (function s (fr .function)) (fr .function) (fr .instruction) ≡ some types
     pub height : length (fr .stack) ≡ length types
     pub low : length types ≤ 16
     pub typed : Typed s (fr .stack) types
     pub small : All (λ v. size s v ≤ limit) (fr .stack)
 
+  -- a waiting frame stands at its call: each frame but the top one at a call of the function of the frame above it
+  abbrev pub Waiting : State → Type 0
+  Waiting [] = Unit {0}
+  Waiting (fr ∷ []) = Unit {0}
+  Waiting (above ∷ below ∷ others) = (current s below ≡ some (Call (above .function))) × Waiting (below ∷ others)
+
   pub record Safe (limit : ℕ) (st : State) : Type 0 where
     pub lives : Lives st
     pub frames : All (Kept limit) st
+    pub calls : Waiting st
 
 ---- A run
 
@@ -93,12 +99,17 @@ module _ (s : Program) (f : Function) (limit : ℕ) (m : Tables) (budget room : 
     pub fitted : (k : ℕ) (st : State) → k ≤ a .steps → after s k begin ≡ some st → Room m st (cells + builds s k begin)
     pub ending : Ends (a .steps) last (a .ending)
 
--- what a run answers: it is refused before its start (11, 12, or 17, 16, 15 at the entry), or its arguments are of the declared types and
--- it ran from them
+-- what a run answers: 11 where there is no such function; 12 where the argument check refuses; past that check the arguments are of the
+-- declared types, and the run is refused by 17, 16 or 15 at (entry, 1) where the tables have no room for the start, or it ran from there
 pub data Answers (s : Program) (entry : ℕ) (arguments : List ℕ) (budget : ℕ) (lent : Lent) (a : Outcome) : Type 0 where
-  not-begun : (r : Refusal) → loaded s (usable lent) entry arguments ≡ refused r → a ≡ answer (refusedWith r) 0
-      → Answers s entry arguments budget lent a
-  began : (f : Function) → function s entry ≡ some f → Typed s (values s arguments) (f .parameters)
+  no-entry : function s entry ≡ none → a ≡ answer (refusedWith (refusal 11 entry 0)) 0 → Answers s entry arguments budget lent a
+  bad-arguments : (f : Function) → function s entry ≡ some f → (r : Refusal) → argumentsRight s f arguments ≡ refused r
+      → a ≡ answer (refusedWith r) 0 → Answers s entry arguments budget lent a
+  no-room : (f : Function) → function s entry ≡ some f → argumentsRight s f arguments ≡ passed
+      → Typed s (values s arguments) (f .parameters)
+      → (number : ℕ) → NoRoom (usable lent) (start entry (values s arguments)) (length arguments) number
+      → a ≡ answer (refusedWith (refusal number entry 1)) 0 → Answers s entry arguments budget lent a
+  began : (f : Function) → function s entry ≡ some f → argumentsRight s f arguments ≡ passed → Typed s (values s arguments) (f .parameters)
       → Ran s f (boundAt (f .bound) (sizes s (values s arguments))) (usable lent) budget (lent .output) (start entry (values s arguments))
       (length arguments) a
       → Answers s entry arguments budget lent a

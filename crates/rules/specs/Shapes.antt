@@ -1,17 +1,19 @@
 -- The shape walk, with the cover test, 10, and the limits on variables and alternatives, 9. Document 01, "Shape"; 001, Table 3.
 use mathlib.Core.List.{List, [], _∷_, _++_, map}
+use mathlib.Core.Option.{Option}
 use mathlib.Core.Bool.{Bool}
 use Prim.Native.Nat.{ℕ, suc, _+_}
 use lib.ListN.{length}
 use lib.Dec.{leb, eqb}
+use Rattle.rules.specs.declared.records.Alternative.{Alternative}
 use Rattle.rules.specs.declared.records.Instruction.{Instruction}
 use Rattle.rules.specs.declared.records.Instruction.the-variants.{Load, Build, Call, Branch, Return, Stop}
 use Rattle.rules.specs.Base.{refusal, Tried, found, refused, _>>=_, Check, require, orRefuse, if_then_else_, each, all}
 use Rattle.rules.specs.Program.{Function, Program, arity, constructor, function}
 use Rattle.rules.specs.Tree.{node, toList, made}
 use Rattle.rules.specs.Stacks.{slot, split, push}
-use Rattle.rules.specs.Walk.{Arrow, walk, visited}
-use Rattle.rules.specs.Expressions.{Symbol, variable, built, called, Expression, variables, replace}
+use Rattle.rules.specs.Walk.{Arrow, rootAt, stateAt, judged}
+use Rattle.rules.specs.Expressions.{Symbol, variable, known, built, called, Expression, variables, replace}
 use Rattle.rules.specs.Forms.{intoBound, formOf, covers}
 
 -- the state along a path: what 001 calls σ and E
@@ -19,25 +21,31 @@ pub record Shape : Type 0 where
   pub parameters : List Expression  -- the shape of each parameter: σ of the parameter's variable
   pub count : ℕ  -- the variables so far on the path, "parameters and those already split included"
   pub stack : List Expression  -- E: what stands on the stack
+  pub bound : List Alternative  -- the size bound of the path's root, which is the function's own
 
 -- the same parameters and variables under another stack
 abbrev pub withStack : Shape → List Expression → Shape
-withStack sh stack = record { parameters = sh .parameters; count = sh .count; stack = stack }
+withStack sh stack = record { parameters = sh .parameters; count = sh .count; stack = stack; bound = sh .bound }
 
 -- variable k is split by constructor c with so many arguments, which are fresh variables: σ' = [c(x, ..)/x]
 unfoldable pub splitVariable : Shape → List Expression → ℕ → ℕ → ℕ → Shape
 splitVariable sh rest k c args =
     let fresh = variables (sh .count) args in
-    let e : Expression = made (built c) fresh in
-    record { parameters = map (replace k e) (sh .parameters); count = sh .count + args; stack = map (replace k e) rest ++ fresh }
+    let e : Expression = made (known c) fresh in
+    record {
+      parameters = map (replace k e) (sh .parameters);
+      count = sh .count + args;
+      stack = map (replace k e) rest ++ fresh;
+      bound = sh .bound;
+    }
+
+-- "At each visited instruction, every alternative of every stack entry" is covered by "the function's own bound at its parameters' current
+-- shapes"
+unfoldable pub coveredAt : Program → Shape → Bool
+coveredAt s sh = all (λ e. covers (intoBound (sh .bound) (map (formOf s) (sh .parameters))) (formOf s e)) (sh .stack)
 
 -- function number n. (What 7 and 8 have refused does not come up here: it is refused again by the same number)
 module _ (s : Program) (n : ℕ) (f : Function) where
-  -- "At each visited instruction, every alternative of every stack entry" is covered by "the function's own bound at its parameters'
-  -- current shapes"
-  unfoldable pub coveredAt : Shape → Bool
-  coveredAt sh = all (λ e. covers (intoBound (f .bound) (map (formOf s) (sh .parameters))) (formOf s e)) (sh .stack)
-
   -- a new entry in place of the top arguments: "a form has at most 16"
   unfoldable pub enter : ℕ → Shape → ℕ → Symbol → Tried (List (Arrow Shape))
   enter i sh args symbol = do
@@ -53,8 +61,9 @@ module _ (s : Program) (n : ℕ) (f : Function) where
   branchOn i sh rest c args b (node (variable k) ts ∷ more) = do
     _ ← require (leb (sh .count + args) 16) (refusal 9 n i)
     found ((suc i, splitVariable sh rest k c args) ∷ (b, sh) ∷ [])
-  branchOn i sh rest c args b (node (built d) ts ∷ more) =
+  branchOn i sh rest c args b (node (known d) ts ∷ more) =
       found ((if eqb d c then (suc i, withStack sh (rest ++ toList ts)) else (b, sh)) ∷ [])
+  branchOn i sh rest c args b (node (built d) ts ∷ more) = refused (refusal 7 n i)
   branchOn i sh rest c args b (node (called g) ts ∷ more) = refused (refusal 7 n i)
 
   unfoldable pub shapeFrom : ℕ → Instruction → Shape → Tried (List (Arrow Shape))
@@ -77,15 +86,19 @@ module _ (s : Program) (n : ℕ) (f : Function) where
   -- "one walk in file order for 10 and 9, at an instruction the arriving entries first"
   unfoldable pub shapeRule : ℕ → Instruction → Shape → Tried (List (Arrow Shape))
   shapeRule i ins sh = do
-    _ ← require (coveredAt sh) (refusal 10 n i)
+    _ ← require (coveredAt s sh) (refusal 10 n i)
     shapeFrom i ins sh
 
 -- σ is the identity, and E the parameters' variables
 unfoldable pub startShape : Function → Shape
-startShape f = let params = variables 0 (arity f) in record { parameters = params; count = arity f; stack = params }
+startShape f = let params = variables 0 (arity f) in record { parameters = params; count = arity f; stack = params; bound = f .bound }
 
-unfoldable pub shapesOf : Program → ℕ → Function → Tried (List (List Shape))
-shapesOf s n f = walk (visited (shapeRule s n f)) 1 ((1, startShape f) ∷ []) (f .code)
+-- the shape at instruction i of function n, if it is visited
+abbrev pub shapeAt : Program → ℕ → Function → ℕ → Option Shape
+shapeAt s n f i = stateAt (shapeRule s n f) (rootAt 1 (startShape f)) (f .code) i
+
+unfoldable pub sizesOf : Program → ℕ → Function → Check
+sizesOf s n f = judged (shapeRule s n f) (rootAt 1 (startShape f)) (f .code)
 
 unfoldable pub sizesRight : Program → Check
-sizesRight s = each (shapesOf s) 0 (s .functions)
+sizesRight s = each (sizesOf s) 0 (s .functions)

@@ -1,5 +1,6 @@
 -- The type rules, 8. Document 01, "Types"; 001, Table 2.
 use mathlib.Core.List.{List, [], _∷_, _++_}
+use mathlib.Core.Option.{Option}
 use mathlib.Core.Bool.{Bool, true, false, _&&_}
 use Prim.Native.Nat.{ℕ, suc}
 use lib.ListN.{length}
@@ -9,7 +10,7 @@ use Rattle.rules.specs.declared.records.Instruction.the-variants.{Load, 
 use Rattle.rules.specs.Base.{Refusal, refusal, Tried, found, _>>=_, Check, require, orRefuse, each}
 use Rattle.rules.specs.Program.{Function, Program, constructor, function}
 use Rattle.rules.specs.Stacks.{slot, split, push}
-use Rattle.rules.specs.Walk.{Arrow, walk, visited}
+use Rattle.rules.specs.Walk.{Arrow, rootAt, stateAt, judged}
 
 -- The state along a path is the stack's types.
 
@@ -60,8 +61,12 @@ module _ (s : Program) (n : ℕ) (f : Function) where
     found []
   typeRule i Stop stack = found []
 
-unfoldable pub typesOf : Program → ℕ → Function → Tried (List (List (List ℕ)))
-typesOf s n f = walk (visited (typeRule s n f)) 1 ((1, f .parameters) ∷ []) (f .code)
+-- the stack's types at instruction i of function n, if it has a state
+abbrev pub typesAt : Program → ℕ → Function → ℕ → Option (List ℕ)
+typesAt s n f i = stateAt (typeRule s n f) (rootAt 1 (f .parameters)) (f .code) i
+
+unfoldable pub typesOf : Program → ℕ → Function → Check
+typesOf s n f = judged (typeRule s n f) (rootAt 1 (f .parameters)) (f .code)
 
 unfoldable pub typesRight : Program → Check
 typesRight s = each (typesOf s) 0 (s .functions)

@@ -179,7 +179,7 @@ module _ (s : Program) (f : Function) (st : Saved) (r : SavedRight s f st) (ligh
 
     -- all entries are covered, and small
     pub converted : (fs : List Form) (own : Form) → FormsAre st fs → OwnIs b (record { taken = st .taken; list = st .list }) own
-        → LineRight s f (shapeIn (arity f) st) own fs (st .height)
+        → LineRight s f (shapeIn f st) own fs (st .height)
     converted fs own a w =
         record {
           bound = w .right;

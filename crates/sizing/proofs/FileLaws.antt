@@ -10,7 +10,7 @@ use lib.ListN.{length, take, drop, getD, getElem?, length-map, List·getD-map}
 use lib.Seq.{getD-take, length-take-le, ext-getD}
 use lib.Dec.{leb, ltb}
 use borrow.Author.Tests.{leb-true, ltb-true, ltb-false}
-use Rattle.rules.specs.Base.{refusal, found, numbered, isZero, all, any, byteAt, wordAt}
+use Rattle.rules.specs.Base.{refusal, numbered, isZero, all, any, byteAt, wordAt, passed}
 use Rattle.rules.specs.Container.{payload}
 use Rattle.rules.specs.Program.{Constructor, Function, arity, constructor, function}
 use Rattle.rules.specs.Records.{alternativeAt, constructorAt, instructionAt, pastZero, alternativeRight, constructorOffset}
@@ -22,7 +22,7 @@ use Rattle.rules.specs.Flow.{flowOf, flowRight}
 use Rattle.rules.specs.Types.{typesOf, typesRight}
 use Rattle.rules.specs.There.{FunctionThere}
 use Rattle.rules.proofs.ListLaws.{none-some, some-inj, and-left, and-right, all-true, all-getD}
-use Rattle.rules.proofs.TriedLaws.{required, each-found}
+use Rattle.rules.proofs.TriedLaws.{required}
 use Rattle.rules.proofs.NumberedLaws.{numbered-length, numbered-at, numbered-past}
 use Rattle.rules.proofs.RecordLaws.{arguments-length}
 use Rattle.tables.proofs.TableLaws.{byte-small}
@@ -33,6 +33,8 @@ use Rattle.sizing.specs.Walking.{Walking}
 use Rattle.sizing.proofs.ListLaws.{getD-element, element-at}
 use Rattle.sizing.proofs.OwnLaws.{widened-past}
 use Rattle.sizing.proofs.ConvertLaws.{ByteWeights, OwnBound}
+use Rattle.rules.proofs.EachLaws.{each-from-0, each-from-1}
+use Rattle.rules.proofs.Accepted.{FlowsRightly, flows-rightly}
 
 -- an element of a numbered list, and back
 numbered-is : {A : Type 0} (f : ℕ → A) (n i : ℕ) {x : A} → getElem? (numbered f 0 n) i ≡ some x → (i < n) × (x ≡ f i)
@@ -134,28 +136,27 @@ module _ {file : List ℕ} {ts : NameTables} (w : Walking file ts) where
           here .instruction i (omega arith) .0,
         )
 
-    pub flow-found : (T : List (List Bool)) × (flowOf g (functionIn file g) ≡ found T)
+    pub flow-right : FlowsRightly g (functionIn file g)
     unfolding flowRight
-    flow-found =
-        let r = each-found flowOf 0 (programIn file .functions) (w .typechecked .flowing .flow) g function-is in
-        (r .0, rw (zero-add g) at (r .1))
+    flow-right =
+        flows-rightly g (functionIn file g) some-code
+        (each-from-0 flowOf (programIn file .functions) .0 (w .typechecked .flowing .flow) g (functionIn file g) function-is)
 
-    pub types-found : (U : List (List (List ℕ))) × (typesOf (programIn file) g (functionIn file g) ≡ found U)
+    pub types-right : typesOf (programIn file) g (functionIn file g) ≡ passed
     unfolding typesRight
-    types-found =
-        let r = each-found (typesOf (programIn file)) 0 (programIn file .functions) (w .typechecked .types) g function-is in
-        (r .0, rw (zero-add g) at (r .1))
+    types-right =
+        each-from-0 (typesOf (programIn file)) (programIn file .functions) .0 (w .typechecked .types) g (functionIn file g) function-is
 
     -- 6: each parameter counts in the bound
     pub parameter-counts : (v : ℕ) → v < arity (functionIn file g)
         → any (λ a. ltb 0 (getD (a .coefficients) v 0)) (functionIn file g .bound) ≡ true
     unfolding boundsRight boundRule argumentRule counted
     parameter-counts v l =
-        let r = each-found boundRule 0 (programIn file .functions) (w .typechecked .flowing .declared .bounds) g function-is in
-        let q = each-found (argumentRule (0 + g) (functionIn file g)) 1 (functionIn file g .parameters) (r .1) v
-        (element-at 0 (functionIn file g .parameters) v l) in
-        let e : 1 + v - 1 ≡ v = omega arith in
-        rw e at (required (counted (1 + v) (functionIn file g .bound)) (refusal 6 (0 + g) (1 + v)) (q .1))
+        let f = functionIn file g in
+        let r = each-from-0 boundRule (programIn file .functions) .0 (w .typechecked .flowing .declared .bounds) g f function-is in
+        let q = each-from-1 (argumentRule g f) (f .parameters) .0 r (suc v) (getD (f .parameters) v 0) (element-at 0 (f .parameters) v l) in
+        let e : suc v - 1 ≡ v = omega arith in
+        rw e at (required (counted (suc v) (f .bound)) (refusal 6 g (suc v)) q)
 
     ---- The bound
 

@@ -11,7 +11,7 @@ use Rattle.rules.specs.declared.records.Alternative.{Alternative}
 use Rattle.rules.specs.Base.{if_then_else_}
 use Rattle.rules.specs.Program.{constructor, function, Constructor, Function, Program}
 use Rattle.rules.specs.Tree.{Trees, node, nil, cons}
-use Rattle.rules.specs.Expressions.{Symbol, variable, built, called, Expression, replace, replaceAll}
+use Rattle.rules.specs.Expressions.{Symbol, variable, known, built, called, Expression, replace, replaceAll}
 use Rattle.rules.specs.Forms.{Form, added, constantOnly, variableOnly, flatMap, substituted, intoBound, builtForm, calledForm, formOf}
 use Rattle.rules.specs.Forms.{formsOf}
 use Rattle.rules.specs.Lists.{All, _l∷_}
@@ -84,6 +84,8 @@ module _ (k : ℕ) (m : Alternative) (w : Wide m) where
 
       pub form-replaced : (e : Expression) → formOf s (replace k x e) ≡ map (put k m) (formOf s e)
       form-replaced (node (variable j) ts) = replaced-variable j ts (eqb j k) refl
+      form-replaced (node (known c) ts) =
+          ap (builtForm (constructor s c)) (forms-replaced ts) ∙ sym (put-built (constructor s c) (formsOf s ts) (forms-wide s ts))
       form-replaced (node (built c) ts) =
           ap (builtForm (constructor s c)) (forms-replaced ts) ∙ sym (put-built (constructor s c) (formsOf s ts) (forms-wide s ts))
       form-replaced (node (called g) ts) =

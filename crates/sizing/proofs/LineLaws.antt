@@ -71,7 +71,7 @@ module _ {s : Program} (n : ℕ) {f : Function} {sh : Shape} {own : Form} {stack
       ∙ getD-of-map formIn (take height stack) i noForm [] (omega arith) ∙ ap formIn (getD-take height stack i noForm h)
 
   -- nothing is refused by 10
-  covered : coveredAt s n f sh ≡ true
+  covered : coveredAt s sh ≡ true
   unfolding coveredAt
   covered =
       rw (← r .shaped) (go (sh .stack) (λ i h d. let l : i < height = rw stack-length at h in rw (form-is i d l) (r .held i l .covered)))

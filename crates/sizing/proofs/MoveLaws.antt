@@ -52,14 +52,14 @@ right-refused e = let z : _≡_ {A = ℕ} 0 1 = cc in omega arith
 
 module _ {file : List ℕ} {g i : ℕ} {st : Saved} {m : Moved} where
   said-right : m .checked ≡ checked.Right
-      → ((arrows : List (Arrow Shape)) → first (arriving i arrows) ≡ standing (arity (functionIn file g)) st
+      → ((arrows : List (Arrow Shape)) → first (arriving i arrows) ≡ standing (functionIn file g) st
       → leftFrom (programIn file) g (functionIn file g) i arrows
-      ≡ leftFrom (programIn file) g (functionIn file g) (m .on) (leaving (arity (functionIn file g)) m ++ arrows))
+      ≡ leftFrom (programIn file) g (functionIn file g) (m .on) (leaving (functionIn file g) m ++ arrows))
       → Lands file g i m → StepSays file g i st m
   said-right e h l = record { left = λ arrows q. h arrows q ∙ sym (ap (λ (c : Checked). moveLeft file g m c arrows) e); lands = λ _. l }
 
   said-refused : {why : Reason} → m .checked ≡ checked.Refused why
-      → ((arrows : List (Arrow Shape)) → first (arriving i arrows) ≡ standing (arity (functionIn file g)) st
+      → ((arrows : List (Arrow Shape)) → first (arriving i arrows) ≡ standing (functionIn file g) st
       → leftFrom (programIn file) g (functionIn file g) i arrows ≡ refused (refusalOf why))
       → StepSays file g i st m
   said-refused e h = record {
@@ -69,7 +69,7 @@ module _ {file : List ℕ} {g i : ℕ} {st : Saved} {m : Moved} where
 
   -- nothing leaves
   said-stay : {on : ℕ} → StayIs on m → i < on
-      → ((arrows : List (Arrow Shape)) → first (arriving i arrows) ≡ standing (arity (functionIn file g)) st
+      → ((arrows : List (Arrow Shape)) → first (arriving i arrows) ≡ standing (functionIn file g) st
       → leftFrom (programIn file) g (functionIn file g) i arrows ≡ leftFrom (programIn file) g (functionIn file g) on arrows)
       → StepSays file g i st m
   said-stay s l h =
@@ -96,26 +96,26 @@ said-skipped {file} {ts} {g} {r} {i} {st} a {m} v s =
 ---- A state arrives
 
 module _ {file : List ℕ} {ts : NameTables} {g i : ℕ} {st : Saved} {ins : Instruction} (a : MoveAsks file ts g i st ins) where
-  arrives : (arrows : List (Arrow Shape)) → first (arriving i arrows) ≡ standing (arity (functionIn file g)) st
-      → first (arriving i arrows) ≡ some (shapeIn (arity (functionIn file g)) st)
+  arrives : (arrows : List (Arrow Shape)) → first (arriving i arrows) ≡ standing (functionIn file g) st
+      → first (arriving i arrows) ≡ some (shapeIn (functionIn file g) st)
   arrives arrows q = q ∙ rw (a .visited)
 
-  rule : shapeRule (programIn file) g (functionIn file g) i ins (shapeIn (arity (functionIn file g)) st)
-      ≡ shapeFrom (programIn file) g (functionIn file g) i ins (shapeIn (arity (functionIn file g)) st)
+  rule : shapeRule (programIn file) g (functionIn file g) i ins (shapeIn (functionIn file g) st)
+      ≡ shapeFrom (programIn file) g (functionIn file g) i ins (shapeIn (functionIn file g) st)
   rule =
       let r = a .fit .right in
       rule-from (programIn file) g (functionIn file g) (splitsIn st) (st .count) (stackIn st) (r .path) (r .under) i ins
 
-  goes : (L : List (Arrow Shape)) → shapeFrom (programIn file) g (functionIn file g) i ins (shapeIn (arity (functionIn file g)) st)
+  goes : (L : List (Arrow Shape)) → shapeFrom (programIn file) g (functionIn file g) i ins (shapeIn (functionIn file g) st)
       ≡ found L
-      → (arrows : List (Arrow Shape)) → first (arriving i arrows) ≡ standing (arity (functionIn file g)) st
+      → (arrows : List (Arrow Shape)) → first (arriving i arrows) ≡ standing (functionIn file g) st
       → leftFrom (programIn file) g (functionIn file g) i arrows ≡ leftFrom (programIn file) g (functionIn file g) (i + 1) (L ++ arrows)
   goes L h arrows q =
       rw (add-one i) (outcome-goes (shapeRule (programIn file) g (functionIn file g)) (functionIn file g .code) i arrows (a .is)
-      (shapeIn (arity (functionIn file g)) st) L (arrives arrows q) (rule ∙ h))
+      (shapeIn (functionIn file g) st) L (arrives arrows q) (rule ∙ h))
 
   -- a return or a stop
-  pub said-end : {m : Moved} → shapeFrom (programIn file) g (functionIn file g) i ins (shapeIn (arity (functionIn file g)) st) ≡ found []
+  pub said-end : {m : Moved} → shapeFrom (programIn file) g (functionIn file g) i ins (shapeIn (functionIn file g) st) ≡ found []
       → StayIs (i + 1) m → StepSays file g i st m
   said-end h s = said-stay s (omega arith) (goes [] h)
 
@@ -141,8 +141,8 @@ module _ {file : List ℕ} {ts : NameTables} {g i : ℕ} {st : Saved} {v : ℕ} 
       let r = load-saved (programIn file) g (functionIn file g) st (a .fit .right) i k x (omega (arith, b .0, b .1)) (b .2) q h s in
       let on = q .visited ∙ a .visited in
       said-right refl
-      (λ arrows f. goes a ((suc i, shapeIn (arity (functionIn file g)) x) ∷ [])
-      (ap (λ (j : ℕ). shapeFrom (programIn file) g (functionIn file g) i (Load j) (shapeIn (arity (functionIn file g)) st)) is ∙ r .0)
+      (λ arrows f. goes a ((suc i, shapeIn (functionIn file g) x) ∷ [])
+      (ap (λ (j : ℕ). shapeFrom (programIn file) g (functionIn file g) i (Load j) (shapeIn (functionIn file g) st)) is ∙ r .0)
       arrows f ∙ rw (on, off, add-one i))
       (record {
         on = omega arith;
@@ -256,7 +256,7 @@ module _ {file : List ℕ} {ts : NameTables} {g i : ℕ} {st : Saved} {c b : ℕ
           → m .checked ≡ checked.Refused (TooManyForms (record { function = g; instruction = i })) → StepSays file g i st m
       said-branch-large z e =
           said-refused e (λ arrows f. outcome-refused (shapeRule (programIn file) g (functionIn file g)) (functionIn file g .code) i arrows
-          (a .is) (shapeIn (arity (functionIn file g)) st) (refusal 9 g i) (arrives a arrows f) (rule a ∙ said .large z))
+          (a .is) (shapeIn (functionIn file g) st) (refusal 9 g i) (arrives a arrows f) (rule a ∙ said .large z))
 
       pub said-branch : r .large ≡ false → (near far : ℕ) → near ≡ (if r .next .visited then i + 1 else 0)
           → far ≡ (if r .other .visited then b else 0)
@@ -264,10 +264,10 @@ module _ {file : List ℕ} {ts : NameTables} {g i : ℕ} {st : Saved} {c b : ℕ
       said-branch z near far e f =
           let y = reached in
           said-right refl
-          (λ arrows q. goes a (arrowsOf (arity (functionIn file g)) i b r) (said .goes z) arrows q
+          (λ arrows q. goes a (arrowsOf (functionIn file g) i b r) (said .goes z) arrows q
           ∙ ap (λ (l : List (Arrow Shape)). leftFrom (programIn file) g (functionIn file g) (i + 1) (l ++ arrows))
-          (same-arrows (r .next .visited) (r .other .visited) i b near far (shapeIn (arity (functionIn file g)) (r .next))
-          (shapeIn (arity (functionIn file g)) (r .other)) e f))
+          (same-arrows (r .next .visited) (r .other .visited) i b near far (shapeIn (functionIn file g) (r .next))
+          (shapeIn (functionIn file g) (r .other)) e f))
           (record {
             on = omega arith;
             near = e;

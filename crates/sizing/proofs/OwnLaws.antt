@@ -84,7 +84,7 @@ module _ (s : Program) where
 
   -- nothing is to be tested where the stack is variables
   pub variables-covered : (n : ℕ) (f : Function) (ps : List Split) (count : ℕ) (stack : List ℕ) → Path s (ownAt s f) (arity f) ps count
-      → AllUnder count stack → coveredAt s n f (shapeOf (arity f) ps count stack) ≡ true
+      → AllUnder count stack → coveredAt s (shapeOf f ps count stack) ≡ true
   unfolding coveredAt
   variables-covered n f ps count stack p u = rw (own-through f ps (p .right)) (go stack u)
     where

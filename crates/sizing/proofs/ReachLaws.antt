@@ -18,25 +18,22 @@ use Rattle.sizing.specs.Routines.{NameTables, OperandThere}
 use Rattle.sizing.specs.Walking.{Walking}
 use Rattle.sizing.proofs.ChartLaws as chart
 use Rattle.sizing.proofs.ChartLaws.{Branches}
-use Rattle.sizing.proofs.FileLaws.{constructor-named, function-named, here, few-parameters, code-length, some-code, code-at}
-use Rattle.sizing.proofs.FileLaws.{flow-found, types-found}
+use Rattle.sizing.proofs.FileLaws.{constructor-named, function-named, here, few-parameters, code-length, code-at}
+use Rattle.sizing.proofs.FileLaws.{flow-right, types-right}
 
 module _ {file : List ℕ} {ts : NameTables} (w : Walking file ts) {g : ℕ} (t : g < byteAt (payload file) 3) where
   pub at-start : ReachedAt (programIn file) g (functionIn file g) 1 (arity (functionIn file g)) false
   at-start =
-      chart.at-start (programIn file) g (functionIn file g) (flow-found w g t .1) (types-found w g t .1) (few-parameters w g t)
-      (some-code w g t)
+      chart.at-start (programIn file) g (functionIn file g) (flow-right w g t) (types-right w g t) (few-parameters w g t)
 
   module _ {i h : ℕ} {p : Bool} (y : ReachedAt (programIn file) g (functionIn file g) i h p) where
     pub at-low : h ≤ 16
     at-low =
-        chart.at-low (programIn file) g (functionIn file g) (flow-found w g t .1) (types-found w g t .1) (few-parameters w g t)
-        (some-code w g t) i h p y
+        chart.at-low (programIn file) g (functionIn file g) (flow-right w g t) (types-right w g t) (few-parameters w g t) i h p y
 
     at-there : (1 ≤ i) × (i ≤ length (functionIn file g .code))
     at-there =
-        chart.at-there (programIn file) g (functionIn file g) (flow-found w g t .1) (types-found w g t .1) (few-parameters w g t)
-        (some-code w g t) i h p y
+        chart.at-there (programIn file) g (functionIn file g) (flow-right w g t) (types-right w g t) (few-parameters w g t) i h p y
 
     -- where it stands, if the code starts at base
     pub at-place : (base : ℕ) → base ≡ codeOffset (payload file) (headOffset (payload file) g) → (1 ≤ i)
@@ -59,28 +56,24 @@ module _ {file : List ℕ} {ts : NameTables} (w : Walking file ts) {g : ℕ} (t 
     pub at-load : (a : ℕ) → slot i (functionIn file g .code) ≡ some (Load a) → (1 ≤ a) × (a ≤ h)
         × ReachedAt (programIn file) g (functionIn file g) (suc i) (h + 1) p
     at-load a e =
-        chart.at-load (programIn file) g (functionIn file g) (flow-found w g t .1) (types-found w g t .1) (few-parameters w g t)
-        (some-code w g t) i h p a y e
+        chart.at-load (programIn file) g (functionIn file g) (flow-right w g t) (types-right w g t) (few-parameters w g t) i h p a y e
 
     pub at-build : (c : ℕ) → slot i (functionIn file g .code) ≡ some (Build c)
         → (k : Constructor) × (constructor (programIn file) c ≡ some k) × (length (k .arguments) ≤ h)
         × ReachedAt (programIn file) g (functionIn file g) (suc i) (h - length (k .arguments) + 1) true
     at-build c e =
-        chart.at-build (programIn file) g (functionIn file g) (flow-found w g t .1) (types-found w g t .1) (few-parameters w g t)
-        (some-code w g t) i h p c y e
+        chart.at-build (programIn file) g (functionIn file g) (flow-right w g t) (types-right w g t) (few-parameters w g t) i h p c y e
 
     pub at-call : (c : ℕ) → slot i (functionIn file g .code) ≡ some (Call c)
         → (k : Function) × (function (programIn file) c ≡ some k) × (arity k ≤ h)
         × ReachedAt (programIn file) g (functionIn file g) (suc i) (h - arity k + 1) true
     at-call c e =
-        chart.at-call (programIn file) g (functionIn file g) (flow-found w g t .1) (types-found w g t .1) (few-parameters w g t)
-        (some-code w g t) i h p c y e
+        chart.at-call (programIn file) g (functionIn file g) (flow-right w g t) (types-right w g t) (few-parameters w g t) i h p c y e
 
     pub at-branch : (c b : ℕ) → slot i (functionIn file g .code) ≡ some (Branch c b)
         → (p ≡ false) × Branches (programIn file) g (functionIn file g) i h c b
     at-branch c b e =
-        chart.at-branch (programIn file) g (functionIn file g) (flow-found w g t .1) (types-found w g t .1) (few-parameters w g t)
-        (some-code w g t) i h p c b y e
+        chart.at-branch (programIn file) g (functionIn file g) (flow-right w g t) (types-right w g t) (few-parameters w g t) i h p c b y e
 
     -- what an instruction names is there
     pub operand-there : (ins : Instruction) → slot i (functionIn file g .code) ≡ some ins → OperandThere (payload file) ins

@@ -16,7 +16,7 @@ use Rattle.rules.specs.Base.{refusal, found, refused, if_then_else_}
 use Rattle.rules.specs.Program.{constructor, Constructor, Function, Program, arity}
 use Rattle.rules.specs.Tree.{Trees, node, cons, fromList, made}
 use Rattle.rules.specs.Stacks.{split}
-use Rattle.rules.specs.Expressions.{Symbol, variable, built, Expression, variables, replace, replaceAll}
+use Rattle.rules.specs.Expressions.{Symbol, variable, known, Expression, variables, replace, replaceAll}
 use Rattle.rules.specs.Shapes.{coveredAt, branchOn, splitVariable, shapeFrom, shapeRule}
 use Rattle.rules.proofs.Models.{to-from}
 use Rattle.sizing.specs.declared.splits.Split.{Split}
@@ -52,17 +52,17 @@ replace-all-list k e [] = refl
 replace-all-list k e (x ∷ xs) = ap (λ (l : Trees Symbol). cons (replace k e x) l) (replace-all-list k e xs)
 
 -- splits go into a constructor's arguments
-through-made : (ps : List Split) (c : ℕ) (xs : List Expression) → through ps (made (built c) xs) ≡ made (built c) (map (through ps) xs)
+through-made : (ps : List Split) (c : ℕ) (xs : List Expression) → through ps (made (known c) xs) ≡ made (known c) (map (through ps) xs)
 unfolding through replace replaceAll
-through-made [] c xs = ap (made (built c)) (sym (map-same xs))
+through-made [] c xs = ap (made (known c)) (sym (map-same xs))
   where
     map-same : (xs : List Expression) → map (λ e. e) xs ≡ xs
     map-same [] = refl
     map-same (x ∷ xs) = ap (λ (l : List Expression). x ∷ l) (map-same xs)
 through-made (p ∷ ps) c xs =
-    ap (λ (ts : Trees Symbol). through ps (node (built c) ts)) (replace-all-list (p .variable) (splitE p) xs)
+    ap (λ (ts : Trees Symbol). through ps (node (known c) ts)) (replace-all-list (p .variable) (splitE p) xs)
     ∙ through-made ps c (map (replace (p .variable) (splitE p)) xs)
-    ∙ ap (made (built c)) (map-map (through ps) (replace (p .variable) (splitE p)) (λ e. through ps (replace (p .variable) (splitE p) e)) xs
+    ∙ ap (made (known c)) (map-map (through ps) (replace (p .variable) (splitE p)) (λ e. through ps (replace (p .variable) (splitE p) e)) xs
     (λ x. refl))
 
 -- variables from k on are not touched by a split of an earlier one
@@ -91,20 +91,20 @@ splitting-first n count (now-split e) h = let z = h .1 in omega arith
 splitting-first n count (later-split {q} {p} {ps} d g) h = let z = splitting-first (n + q .parts) count g (h .2) in omega arith
 
 through-split : {v : ℕ} {ps : List Split} {p : Split} (n count : ℕ) → Splitting v ps p → Numbered n ps count
-    → through ps (variableE v) ≡ made (built (p .constructor)) (map (through ps) (variables (p .first) (p .parts)))
+    → through ps (variableE v) ≡ made (known (p .constructor)) (map (through ps) (variables (p .first) (p .parts)))
 unfolding through replace
 through-split {v} n count (now-split {p} {ps} e) h =
     let z = h .0 in let y = h .1 in
     rw (eq-eqb v (p .variable) (sym e))
     (through-made ps (p .constructor) (variables (p .first) (p .parts))
-    ∙ ap (made (built (p .constructor)))
+    ∙ ap (made (known (p .constructor)))
     (sym (through-head p ps (variables (p .first) (p .parts))
     (variables-kept (p .variable) (splitE p) (p .first) (p .parts) (omega arith)))))
 through-split {v} n count (later-split {q} {p} {ps} d g) h =
     let l = splitting-first (n + q .parts) count g (h .2) in let z = h .0 in
     rw (ne-eqb v (q .variable) d)
     (through-split (n + q .parts) count g (h .2)
-    ∙ ap (made (built (p .constructor)))
+    ∙ ap (made (known (p .constructor)))
     (sym (through-head q ps (variables (p .first) (p .parts))
     (variables-kept (q .variable) (splitE q) (p .first) (p .parts) (omega arith)))))
 
@@ -117,25 +117,25 @@ variables-map ps k (suc n) = ap (λ (l : List Expression). through ps (variableE
 
 module _ (s : Program) (n : ℕ) (f : Function) (ps : List Split) (count : ℕ) (stack : List ℕ) (path : Path s (ownAt s f) (arity f) ps count)
     (under : AllUnder count stack) where
-  covered-here : coveredAt s n f (shapeOf (arity f) ps count stack) ≡ true
+  covered-here : coveredAt s (shapeOf f ps count stack) ≡ true
   covered-here = variables-covered s n f ps count stack path under
 
   -- nothing is tested
   pub rule-from : (i : ℕ) (ins : Instruction)
-      → shapeRule s n f i ins (shapeOf (arity f) ps count stack) ≡ shapeFrom s n f i ins (shapeOf (arity f) ps count stack)
+      → shapeRule s n f i ins (shapeOf f ps count stack) ≡ shapeFrom s n f i ins (shapeOf f ps count stack)
   unfolding shapeRule
   rule-from i ins = rw covered-here
 
   pub load-rule : (i k : ℕ) → k < length stack
-      → shapeFrom s n f i (Load (suc k)) (shapeOf (arity f) ps count stack)
-      ≡ found ((suc i, shapeOf (arity f) ps count (stack ++ (getD stack k 0 ∷ []))) ∷ [])
+      → shapeFrom s n f i (Load (suc k)) (shapeOf f ps count stack)
+      ≡ found ((suc i, shapeOf f ps count (stack ++ (getD stack k 0 ∷ []))) ∷ [])
   unfolding shapeFrom
   load-rule i k h =
       rw (element-map (λ v. through ps (variableE v)) 0 stack k h, map-append (λ v. through ps (variableE v)) stack (getD stack k 0 ∷ []))
 
   -- a branch on a variable that was taken apart
   module _ (i b : ℕ) (rest : List ℕ) (v : ℕ) (top : stack ≡ rest ++ (v ∷ [])) (p : Split) (g : Splitting v ps p) (c : ℕ) (k : Constructor)
-      (known : constructor s c ≡ some k) where
+      (declared : constructor s c ≡ some k) where
     stack-is : map (λ v. through ps (variableE v)) stack ≡ map (λ v. through ps (variableE v)) rest ++ (through ps (variableE v) ∷ [])
     stack-is = ap (map (λ v. through ps (variableE v))) top ∙ map-append (λ v. through ps (variableE v)) rest (v ∷ [])
 
@@ -143,13 +143,13 @@ module _ (s : Program) (n : ℕ) (f : Function) (ps : List Split) (count : ℕ) 
         ≡ some (map (λ v. through ps (variableE v)) rest, through ps (variableE v) ∷ [])
     split-is = ap (split 1) stack-is ∙ split-seam (map (λ v. through ps (variableE v)) rest) (through ps (variableE v) ∷ []) 1 refl
 
-    pub branch-known : shapeFrom s n f i (Branch c b) (shapeOf (arity f) ps count stack)
-        ≡ found ((if eqb (p .constructor) c then (suc i, shapeOf (arity f) ps count (rest ++ upFrom (p .first) (p .parts))) else
-        (b, shapeOf (arity f) ps count stack)) ∷ [])
+    pub branch-known : shapeFrom s n f i (Branch c b) (shapeOf f ps count stack)
+        ≡ found ((if eqb (p .constructor) c then (suc i, shapeOf f ps count (rest ++ upFrom (p .first) (p .parts))) else
+        (b, shapeOf f ps count stack)) ∷ [])
     unfolding shapeFrom branchOn
     branch-known =
         rw (
-          known,
+          declared,
           split-is,
           through-split (arity f) count g (path .numbered),
           to-from (map (through ps) (variables (p .first) (p .parts))),
@@ -159,7 +159,7 @@ module _ (s : Program) (n : ℕ) (f : Function) (ps : List Split) (count : ℕ) 
 
   -- a branch on a whole variable
   module _ (i b : ℕ) (rest : List ℕ) (v : ℕ) (top : stack ≡ rest ++ (v ∷ [])) (w : Whole v ps) (c : ℕ) (k : Constructor)
-      (known : constructor s c ≡ some k) where
+      (declared : constructor s c ≡ some k) where
     split-whole : split 1 (map (λ v. through ps (variableE v)) stack) ≡ some (map (λ v. through ps (variableE v)) rest, variableE v ∷ [])
     split-whole =
         ap (split 1) (ap (map (λ v. through ps (variableE v))) top ∙ map-append (λ v. through ps (variableE v)) rest (v ∷ []))
@@ -167,9 +167,9 @@ module _ (s : Program) (n : ℕ) (f : Function) (ps : List Split) (count : ℕ) 
         ∙ ap (λ (e : Expression). some (map (λ v. through ps (variableE v)) rest, e ∷ [])) (through-whole ps v w)
 
     pub branch-large : 16 < count + length (k .arguments)
-        → shapeFrom s n f i (Branch c b) (shapeOf (arity f) ps count stack) ≡ refused (refusal 9 n i)
+        → shapeFrom s n f i (Branch c b) (shapeOf f ps count stack) ≡ refused (refusal 9 n i)
     unfolding shapeFrom branchOn
-    branch-large h = rw (known, split-whole, lt-leb (count + length (k .arguments)) 16 h)
+    branch-large h = rw (declared, split-whole, lt-leb (count + length (k .arguments)) 16 h)
 
     -- p: the split of v by c
     module _ (p : Split) (pv : p .variable ≡ v) (pc : p .constructor ≡ c) (pf : p .first ≡ count) (pn : p .parts ≡ length (k .arguments))
@@ -189,22 +189,22 @@ module _ (s : Program) (n : ℕ) (f : Function) (ps : List Split) (count : ℕ) 
             let ih = fresh-kept m (suc x) (omega arith) l in
             cc
 
-        more-all : (xs : List Expression) → map (replace v (made (built c) (variables count (length (k .arguments))))) (map (through ps) xs)
+        more-all : (xs : List Expression) → map (replace v (made (known c) (variables count (length (k .arguments))))) (map (through ps) xs)
             ≡ map (through (ps ++ (p ∷ []))) xs
         more-all xs =
-            map-map (replace v (made (built c) (variables count (length (k .arguments))))) (through ps) (through (ps ++ (p ∷ []))) xs
+            map-map (replace v (made (known c) (variables count (length (k .arguments))))) (through ps) (through (ps ++ (p ∷ []))) xs
             (λ x. sym (through-more ps p x ∙ rw (pv, pc, pf, pn)))
 
-        more-stack : (xs : List ℕ) → map (replace v (made (built c) (variables count (length (k .arguments)))))
+        more-stack : (xs : List ℕ) → map (replace v (made (known c) (variables count (length (k .arguments)))))
             (map (λ v. through ps (variableE v)) xs) ≡ map (λ v. through (ps ++ (p ∷ [])) (variableE v)) xs
         more-stack xs =
-            map-map (replace v (made (built c) (variables count (length (k .arguments))))) (λ v. through ps (variableE v))
+            map-map (replace v (made (known c) (variables count (length (k .arguments))))) (λ v. through ps (variableE v))
             (λ v. through (ps ++ (p ∷ [])) (variableE v)) xs
             (λ x. sym (through-more ps p (variableE x) ∙ rw (pv, pc, pf, pn)))
 
-        split-shape : v < count → splitVariable (shapeOf (arity f) ps count stack) (map (λ v. through ps (variableE v)) rest) v c
+        split-shape : v < count → splitVariable (shapeOf f ps count stack) (map (λ v. through ps (variableE v)) rest) v c
             (length (k .arguments))
-            ≡ shapeOf (arity f) (ps ++ (p ∷ [])) (count + length (k .arguments)) (rest ++ upFrom count (length (k .arguments)))
+            ≡ shapeOf f (ps ++ (p ∷ [])) (count + length (k .arguments)) (rest ++ upFrom count (length (k .arguments)))
         unfolding splitVariable
         split-shape l =
             let a = more-all (variables 0 (arity f)) in
@@ -212,14 +212,14 @@ module _ (s : Program) (n : ℕ) (f : Function) (ps : List Split) (count : ℕ) 
             ∙ ap (λ (xs : List Expression). map (λ v. through (ps ++ (p ∷ [])) (variableE v)) rest ++ xs)
             (fresh-kept (length (k .arguments)) count (le-refl count) l)
             ∙ sym (map-append (λ v. through (ps ++ (p ∷ [])) (variableE v)) rest (upFrom count (length (k .arguments)))) in
-            λ x. record { parameters = a x; count = count + length (k .arguments); stack = b x }
+            λ x. record { parameters = a x; count = count + length (k .arguments); stack = b x; bound = f .bound }
 
         pub branch-whole : v < count → count + length (k .arguments) ≤ 16
-            → shapeFrom s n f i (Branch c b) (shapeOf (arity f) ps count stack)
+            → shapeFrom s n f i (Branch c b) (shapeOf f ps count stack)
             ≡ found ((
               suc i,
-              shapeOf (arity f) (ps ++ (p ∷ [])) (count + length (k .arguments))
+              shapeOf f (ps ++ (p ∷ [])) (count + length (k .arguments))
                   (rest ++ upFrom count (length (k .arguments))),
-            ) ∷ (b, shapeOf (arity f) ps count stack) ∷ [])
+            ) ∷ (b, shapeOf f ps count stack) ∷ [])
         unfolding shapeFrom branchOn
-        branch-whole l h = rw (known, split-whole, le-leb (count + length (k .arguments)) 16 h, split-shape l)
+        branch-whole l h = rw (declared, split-whole, le-leb (count + length (k .arguments)) 16 h, split-shape l)

@@ -12,13 +12,13 @@ use borrow.Author.Tests.{eqb-true, eqb-false}
 use Rattle.rules.specs.declared.answers.Checked.{Checked}
 use Rattle.rules.specs.declared.answers.Checked.the-variants as checked
 use Rattle.rules.specs.declared.answers.Reason.{Reason}
-use Rattle.rules.specs.Base.{refused, passed, only}
+use Rattle.rules.specs.Base.{refused, passed}
 use Rattle.rules.specs.Container.{payload}
 use Rattle.rules.specs.Program.{Function, arity}
 use Rattle.rules.specs.Records.{headOffset, programIn, functionIn}
-use Rattle.rules.specs.Walk.{Arrow, arriving, visited, first}
+use Rattle.rules.specs.Walk.{Arrow, arriving, first}
 use Rattle.rules.specs.Expressions.{variables}
-use Rattle.rules.specs.Shapes.{Shape, shapeRule, startShape, shapesOf}
+use Rattle.rules.specs.Shapes.{Shape, shapeRule, startShape, sizesOf}
 use Rattle.rules.specs.Answers.{refusalOf}
 use Rattle.rules.proofs.ListLaws.{false-true}
 use Rattle.sizing.specs.declared.paths.Saved.{Saved}
@@ -27,14 +27,15 @@ use Rattle.sizing.specs.declared.walk.Moved.{Moved}
 use Rattle.sizing.specs.Splits.{variableE, through}
 use Rattle.sizing.specs.Right.{shapeIn, AllUnder}
 use Rattle.sizing.specs.Steps.{given}
-use Rattle.sizing.specs.Left.{outcome, leftFrom}
+use Rattle.sizing.specs.Left.{leftFrom}
 use Rattle.sizing.specs.Routines.{NameTables, RoutineIs}
 use Rattle.sizing.specs.Moves.{StartIs, Fit, FunctionAsks, StepAsks, standing, leaving, moveLeft, Lands, StepSays}
-use Rattle.sizing.proofs.WalkLaws.{first-put, outcome-end}
+use Rattle.sizing.proofs.WalkLaws.{first-put, outcome-end, walk-judged}
 use Rattle.sizing.proofs.ReachLaws.{at-start}
-use Rattle.sizing.proofs.FileLaws.{few-parameters, arity-is, code-length, here, parameter-counts, own-bound, bound-is}
+use Rattle.sizing.proofs.FileLaws.{flow-right, few-parameters, arity-is, code-length, here, parameter-counts, own-bound, bound-is}
 use Rattle.sizing.proofs.ConvertLaws.{rows-fit}
 use Rattle.sizing.proofs.StartLaws.{path-start}
+use Rattle.rules.proofs.RuleLaws.{shape-among}
 
 abbrev noSaved : Saved
 noSaved = record { visited = false; height = 0; count = 0; stack = []; taken = 0; list = [] }
@@ -45,13 +46,13 @@ module _ (file : List ℕ) (g : ℕ) where
   -- what arrives first at each instruction from i on stands in its slot, and is right
   pub record SlotsStand (saved : List Saved) (arrows : List (Arrow Shape)) (i : ℕ) : Type 0 where
     pub long : length saved ≡ 258
-    pub stands : (k : ℕ) → i ≤ k → k < 258 → first (arriving k arrows) ≡ standing (arity (functionIn file g)) (getD saved k noSaved)
+    pub stands : (k : ℕ) → i ≤ k → k < 258 → first (arriving k arrows) ≡ standing (functionIn file g) (getD saved k noSaved)
     pub fits : (k : ℕ) → i ≤ k → k < 258 → getD saved k noSaved .visited ≡ true → Fit file g k (getD saved k noSaved)
 
   -- a state in slot t, and an arrow there where it is visited; 0 is the slot of those that are not
   put-slot : (saved : List Saved) (arrows : List (Arrow Shape)) (i t : ℕ) (x : Saved) (v : Bool) → x .visited ≡ v → (v ≡ false → t ≡ 0)
       → (v ≡ true → Fit file g t x) → t < 258 → 1 ≤ i
-      → SlotsStand saved arrows i → SlotsStand (set saved t x) (given v (t, shapeIn (arity (functionIn file g)) x) arrows) i
+      → SlotsStand saved arrows i → SlotsStand (set saved t x) (given v (t, shapeIn (functionIn file g) x) arrows) i
   put-slot saved arrows i t x v e off on l p s = record {
     long = length-set saved t x ∙ s .long;
     stands = λ k h b. at k h b (eqb k t) refl v e off;
@@ -59,14 +60,14 @@ module _ (file : List ℕ) (g : ℕ) where
   }
     where
       at : (k : ℕ) → i ≤ k → k < 258 → (q : Bool) → eqb k t ≡ q → (v : Bool) → x .visited ≡ v → (v ≡ false → t ≡ 0)
-          → first (arriving k (given v (t, shapeIn (arity (functionIn file g)) x) arrows))
-          ≡ standing (arity (functionIn file g)) (getD (set saved t x) k noSaved)
+          → first (arriving k (given v (t, shapeIn (functionIn file g) x) arrows))
+          ≡ standing (functionIn file g) (getD (set saved t x) k noSaved)
       at k h b true q true e off =
           let n = s .long in
-          first-put k t (shapeIn (arity (functionIn file g)) x) arrows
+          first-put k t (shapeIn (functionIn file g) x) arrows
           ∙ rw (q, eqb-true k t q, getD-set-same saved t x noSaved (omega arith), e)
       at k h b false q true e off =
-          first-put k t (shapeIn (arity (functionIn file g)) x) arrows
+          first-put k t (shapeIn (functionIn file g) x) arrows
           ∙ rw (q, getD-set-other saved t k x noSaved (eqb-false k t q)) (s .stands k h b)
       at k h b q z false e off = rw (getD-set-other saved t k x noSaved (λ y. let o = off refl in omega arith)) (s .stands k h b)
 
@@ -102,10 +103,10 @@ module _ (file : List ℕ) (g : ℕ) where
 
   -- both stores of a step
   put-both : (saved : List Saved) (arrows : List (Arrow Shape)) (i : ℕ) (m : Moved) → 1 ≤ i → Lands file g i m → SlotsStand saved arrows i
-      → SlotsStand (set (set saved (m .near) (m .next)) (m .far) (m .other)) (leaving (arity (functionIn file g)) m ++ arrows) i
+      → SlotsStand (set (set saved (m .near) (m .next)) (m .far) (m .other)) (leaving (functionIn file g) m ++ arrows) i
   put-both saved arrows i m p l s =
-      rw (given-append (m .next .visited) (m .other .visited) (m .near, shapeIn (arity (functionIn file g)) (m .next))
-      (m .far, shapeIn (arity (functionIn file g)) (m .other)) arrows)
+      rw (given-append (m .next .visited) (m .other .visited) (m .near, shapeIn (functionIn file g) (m .next))
+      (m .far, shapeIn (functionIn file g) (m .other)) arrows)
       (go (m .next .visited) refl (m .other .visited) refl)
     where
       near-off : m .next .visited ≡ false → m .near ≡ 0
@@ -120,18 +121,18 @@ module _ (file : List ℕ) (g : ℕ) where
       -- the far slot first
       swapped : (m .near ≡ m .far → ⊥) → (v w : Bool) → m .next .visited ≡ v → m .other .visited ≡ w
           → SlotsStand (set (set saved (m .near) (m .next)) (m .far) (m .other))
-          (given v (m .near, shapeIn (arity (functionIn file g)) (m .next))
-          (given w (m .far, shapeIn (arity (functionIn file g)) (m .other)) arrows)) i
+          (given v (m .near, shapeIn (functionIn file g) (m .next))
+          (given w (m .far, shapeIn (functionIn file g) (m .other)) arrows)) i
       swapped d v w e f =
           rw (set-comm saved (m .near) (m .far) (m .next) (m .other) d)
-          (put-slot (set saved (m .far) (m .other)) (given w (m .far, shapeIn (arity (functionIn file g)) (m .other)) arrows) i (m .near)
+          (put-slot (set saved (m .far) (m .other)) (given w (m .far, shapeIn (functionIn file g) (m .other)) arrows) i (m .near)
           (m .next) v e (λ z. near-off (e ∙ z)) (λ z. near-fit (e ∙ z)) (near-low i m l) p
           (put-slot saved arrows i (m .far) (m .other) w f (λ z. l .far (f ∙ z)) (λ z. l .other (f ∙ z) .2) (far-low i m l) p s))
 
       go : (v : Bool) → m .next .visited ≡ v → (w : Bool) → m .other .visited ≡ w
           → SlotsStand (set (set saved (m .near) (m .next)) (m .far) (m .other))
-          (given v (m .near, shapeIn (arity (functionIn file g)) (m .next))
-          (given w (m .far, shapeIn (arity (functionIn file g)) (m .other)) arrows)) i
+          (given v (m .near, shapeIn (functionIn file g) (m .next))
+          (given w (m .far, shapeIn (functionIn file g) (m .other)) arrows)) i
       go true e true f = swapped (λ z. omega (arith, near-is e, l .other f .0)) true true e f
       go true e false f = swapped (λ z. omega (arith, near-is e, l .far f)) true false e f
       go false e true f = swapped (λ z. omega (arith, near-off e, l .other f .0)) false true e f
@@ -161,11 +162,17 @@ numbers-under (suc (suc (suc (suc zero)))) h = (omega arith, (omega arith, (omeg
 numbers-under (suc (suc (suc (suc (suc n))))) h = absurd (omega arith)
 
 -- the code's first state stands for the first shape
-start-shape : (f : Function) (x : Saved) → arity f ≤ 4 → StartIs (arity f) x → shapeIn (arity f) x ≡ startShape f
+start-shape : (f : Function) (x : Saved) → arity f ≤ 4 → StartIs (arity f) x → shapeIn f x ≡ startShape f
 unfolding startShape through
 start-shape f x h s =
     let p : map (through []) (variables 0 (arity f)) ≡ variables 0 (arity f) = map-id (variables 0 (arity f)) in
-    rw (s .taken, s .count, s .height, s .stack) (λ k. record { parameters = p k; count = arity f; stack = numbers-start (arity f) h k })
+    rw (s .taken, s .count, s .height, s .stack) (λ k. record {
+      parameters = p k;
+      count = arity f;
+      stack = numbers-start
+          (arity f) h k;
+      bound = f .bound;
+    })
 
 module _ {file : List ℕ} {ts : NameTables} {g : ℕ} (a : FunctionAsks file ts g) {r : Routine}
     (is : RoutineIs (payload file) (headOffset (payload file) g) r) where
@@ -210,19 +217,21 @@ no-slots file g u e = record {
 -- what is left of the walk over function g from instruction i on
 pub record Slots (file : List ℕ) (g : ℕ) (saved : List Saved) (i : ℕ) : Type 0 where
   pub arrows : List (Arrow Shape)
-  pub whole : only (shapesOf (programIn file) g (functionIn file g)) ≡ leftFrom (programIn file) g (functionIn file g) i arrows
+  pub whole : sizesOf (programIn file) g (functionIn file g) ≡ leftFrom (programIn file) g (functionIn file g) i arrows
   pub some-i : 1 ≤ i
   pub standing-in : SlotsStand file g saved arrows i
 
 module _ {file : List ℕ} {ts : NameTables} {g : ℕ} (a : FunctionAsks file ts g) {r : Routine}
     (is : RoutineIs (payload file) (headOffset (payload file) g) r) where
   pub slots-start : (u x : Saved) → u .visited ≡ false → StartIs (r .arity) x → Slots file g (set (replicate 258 u) 1 x) 1
-  unfolding shapesOf outcome
+  unfolding sizesOf
   slots-start u x e s =
       let q : StartIs (arity (functionIn file g)) x = rw (routine-arity a is) at s in
       record {
-        arrows = (1, shapeIn (arity (functionIn file g)) x) ∷ [];
-        whole = rw (start-shape (functionIn file g) x (few-parameters (a .walking) g (a .there)) q);
+        arrows = (1, shapeIn (functionIn file g) x) ∷ [];
+        whole = rw (start-shape (functionIn file g) x (few-parameters (a .walking) g (a .there)) q)
+            (sym (walk-judged (shapeRule (programIn file) g (functionIn file g)) (startShape (functionIn file g)) (functionIn file g .code)
+            (flow-right (a .walking) g (a .there) .tree) (shape-among (programIn file) g (functionIn file g))));
         some-i = omega arith;
         standing-in =
             put-slot file g (replicate 258 u) [] 1 1 x true (s .visited) (λ z. absurd (false-true (sym z))) (λ _. start-fit a is x s)
@@ -230,7 +239,7 @@ module _ {file : List ℕ} {ts : NameTables} {g : ℕ} (a : FunctionAsks file ts
       }
 
   module _ {saved : List Saved} {i : ℕ} (s : Slots file g saved i) where
-    pub slots-end : r .last < i → only (shapesOf (programIn file) g (functionIn file g)) ≡ passed
+    pub slots-end : r .last < i → sizesOf (programIn file) g (functionIn file g) ≡ passed
     slots-end h =
         s .whole ∙ outcome-end (shapeRule (programIn file) g (functionIn file g)) (functionIn file g .code) i (s .arrows)
         (omega (arith, is .last, code-length (a .walking) g (a .there)))
@@ -250,7 +259,7 @@ module _ {file : List ℕ} {ts : NameTables} {g : ℕ} (a : FunctionAsks file ts
 
       module _ {m : Moved} (says : StepSays file g i (getD saved i noSaved) m) where
         pub slots-refused : (why : Reason) → m .checked ≡ checked.Refused why
-            → only (shapesOf (programIn file) g (functionIn file g)) ≡ refused (refusalOf why)
+            → sizesOf (programIn file) g (functionIn file g) ≡ refused (refusalOf why)
         slots-refused why e =
             let z = slots-low in
             s .whole ∙ says .left (s .arrows) (s .standing-in .stands i (omega arith) (omega arith))
@@ -267,7 +276,7 @@ module _ {file : List ℕ} {ts : NameTables} {g : ℕ} (a : FunctionAsks file ts
           slots-next =
               let z = slots-low in let o = slots-on in let p = s .some-i in
               record {
-                arrows = leaving (arity (functionIn file g)) m ++ s .arrows;
+                arrows = leaving (functionIn file g) m ++ s .arrows;
                 whole =
                     s .whole ∙ says .left (s .arrows) (s .standing-in .stands i (omega arith) (omega arith))
                     ∙ ap (λ (c : Checked). moveLeft file g m c (s .arrows)) e;

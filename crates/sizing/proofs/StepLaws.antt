@@ -62,7 +62,7 @@ module _ (s : Program) (n : ℕ) (f : Function) (st : Saved) (r : SavedRight s f
   -- load
   pub load-saved : (i k : ℕ) (x : Saved) → k < st .height → st .height < 16 → SameSplits st x → x .height ≡ st .height + 1
       → stackIn x ≡ stackIn st ++ (getD (stackIn st) k 0 ∷ [])
-      → (shapeFrom s n f i (Load (suc k)) (shapeIn (arity f) st) ≡ found ((suc i, shapeIn (arity f) x) ∷ [])) × SavedRight s f x
+      → (shapeFrom s n f i (Load (suc k)) (shapeIn f st) ≡ found ((suc i, shapeIn f x) ∷ [])) × SavedRight s f x
   load-saved i k x h l q g e = (
     load-rule s n f (splitsIn st) (st .count) (stackIn st) (r .path) (r .under) i k (let z = stack-length in omega arith)
         ∙ ap (λ (sh : Shape). found ((suc i, sh) ∷ [])) same,
@@ -78,7 +78,7 @@ module _ (s : Program) (n : ℕ) (f : Function) (st : Saved) (r : SavedRight s f
     },
   )
     where
-      same : shapeOf (arity f) (splitsIn st) (st .count) (stackIn st ++ (getD (stackIn st) k 0 ∷ [])) ≡ shapeIn (arity f) x
+      same : shapeOf f (splitsIn st) (st .count) (stackIn st ++ (getD (stackIn st) k 0 ∷ [])) ≡ shapeIn f x
       same = rw (q .taken, q .list, q .count, e)
 
   -- the top
@@ -109,7 +109,7 @@ module _ (s : Program) (n : ℕ) (f : Function) (st : Saved) (r : SavedRight s f
           (ap (λ (p : Split). p .variable) (getD-take (st .taken) (st .list) at noSplit l) ∙ fd .there l))
 
       pub branch-other : at < st .taken → (getD (st .list) at noSplit .constructor ≡ c → ⊥)
-          → shapeFrom s n f i (Branch c b) (shapeIn (arity f) st) ≡ found ((b, shapeIn (arity f) st) ∷ [])
+          → shapeFrom s n f i (Branch c b) (shapeIn f st) ≡ found ((b, shapeIn f st) ∷ [])
       branch-other l d =
           branch-known s n f (splitsIn st) (st .count) (stackIn st) (r .path) (r .under) i b (take (st .height - 1) (st .stack))
           (getD (st .stack) (st .height - 1) 0) stack-top (getD (st .list) at noSplit) (splitting l) c k known
@@ -117,7 +117,7 @@ module _ (s : Program) (n : ℕ) (f : Function) (st : Saved) (r : SavedRight s f
 
       pub branch-taken : (x : Saved) → at < st .taken → getD (st .list) at noSplit .constructor ≡ c → SameSplits st x → x .height ≤ 16
           → stackIn x ≡ take (st .height - 1) (st .stack) ++ upFrom (getD (st .list) at noSplit .first) (getD (st .list) at noSplit .parts)
-          → (shapeFrom s n f i (Branch c b) (shapeIn (arity f) st) ≡ found ((suc i, shapeIn (arity f) x) ∷ [])) × SavedRight s f x
+          → (shapeFrom s n f i (Branch c b) (shapeIn f st) ≡ found ((suc i, shapeIn f x) ∷ [])) × SavedRight s f x
       branch-taken x l e q g t = (
         branch-known s n f (splitsIn st) (st .count) (stackIn st) (r .path) (r .under) i b (take (st .height - 1) (st .stack))
             (getD (st .stack) (st .height - 1) 0) stack-top (getD (st .list) at noSplit) (splitting l) c k known
@@ -136,9 +136,9 @@ module _ (s : Program) (n : ℕ) (f : Function) (st : Saved) (r : SavedRight s f
         },
       )
         where
-          same : shapeOf (arity f) (splitsIn st) (st .count)
+          same : shapeOf f (splitsIn st) (st .count)
               (take (st .height - 1) (st .stack) ++ upFrom (getD (st .list) at noSplit .first) (getD (st .list) at noSplit .parts))
-              ≡ shapeIn (arity f) x
+              ≡ shapeIn f x
           same = rw (q .taken, q .list, q .count, t)
 
       whole : at ≡ st .taken → Whole (getD (st .stack) (st .height - 1) 0) (splitsIn st)
@@ -149,7 +149,7 @@ module _ (s : Program) (n : ℕ) (f : Function) (st : Saved) (r : SavedRight s f
           rw (getD-take (st .taken) (st .list) j noSplit w) (fd .before j (omega arith)))
 
       pub branch-over : at ≡ st .taken → 16 < st .count + length (k .arguments)
-          → shapeFrom s n f i (Branch c b) (shapeIn (arity f) st) ≡ refused (refusal 9 n i)
+          → shapeFrom s n f i (Branch c b) (shapeIn f st) ≡ refused (refusal 9 n i)
       branch-over e o =
           branch-large s n f (splitsIn st) (st .count) (stackIn st) (r .path) (r .under) i b (take (st .height - 1) (st .stack))
           (getD (st .stack) (st .height - 1) 0) stack-top (whole e) c k known o
@@ -158,12 +158,12 @@ module _ (s : Program) (n : ℕ) (f : Function) (st : Saved) (r : SavedRight s f
           → p .first ≡ st .count → p .parts ≡ length (k .arguments) → p .weight ≡ k .weight
           → st .count + p .parts ≤ 16 → st .taken < 16 → SplitMore st p m → SameSplits m x → x .height ≤ 16
           → stackIn x ≡ take (st .height - 1) (st .stack) ++ upFrom (st .count) (p .parts)
-          → (shapeFrom s n f i (Branch c b) (shapeIn (arity f) st) ≡ found ((suc i, shapeIn (arity f) x) ∷ (b, shapeIn (arity f) st) ∷ []))
+          → (shapeFrom s n f i (Branch c b) (shapeIn f st) ≡ found ((suc i, shapeIn f x) ∷ (b, shapeIn f st) ∷ []))
           × SavedRight s f x
       branch-split p m x e pv pc pf pn pw o room sm q g t = (
         branch-whole s n f (splitsIn st) (st .count) (stackIn st) (r .path) (r .under) i b (take (st .height - 1) (st .stack))
             (getD (st .stack) (st .height - 1) 0) stack-top (whole e) c k known p pv pc pf pn under-top (let z = pn in omega arith)
-            ∙ ap (λ (sh : Shape). found ((suc i, sh) ∷ (b, shapeIn (arity f) st) ∷ [])) same,
+            ∙ ap (λ (sh : Shape). found ((suc i, sh) ∷ (b, shapeIn f st) ∷ [])) same,
         record {
           path = rw (splits-x, q .count, sm .count)
               (path-split s (ownAt s f) (arity f) (splitsIn st) (st .count) p (own-wide s f) (r .path)
@@ -189,6 +189,6 @@ module _ (s : Program) (n : ℕ) (f : Function) (st : Saved) (r : SavedRight s f
           splits-x : splitsIn x ≡ splitsIn st ++ (p ∷ [])
           splits-x = ap (λ (j : ℕ). take j (x .list)) (q .taken) ∙ ap (take (m .taken)) (q .list) ∙ sm .splits
 
-          same : shapeOf (arity f) (splitsIn st ++ (p ∷ [])) (st .count + length (k .arguments))
-              (take (st .height - 1) (st .stack) ++ upFrom (st .count) (length (k .arguments))) ≡ shapeIn (arity f) x
+          same : shapeOf f (splitsIn st ++ (p ∷ [])) (st .count + length (k .arguments))
+              (take (st .height - 1) (st .stack) ++ upFrom (st .count) (length (k .arguments))) ≡ shapeIn f x
           same = rw (← pn, splits-x, q .count, sm .count, t)

@@ -142,7 +142,7 @@ module _ {file : List ℕ} {ts : NameTables} {g : ℕ} {r : Routine} {start : �
 
   pub line-right : (own : Form) (stack : List Form) → OwnIs (r .bound) (record { taken = st .taken; list = st .list }) own
       → FormsAre st stack
-      → LineRight (programIn file) (functionIn file g) (shapeIn (arity (functionIn file g)) st) own stack (st .height)
+      → LineRight (programIn file) (functionIn file g) (shapeIn (functionIn file g) st) own stack (st .height)
   line-right own stack o h = converted (programIn file) (functionIn file g) st (a .right) (light (a .walking))
       (le-trans (few-parameters (a .walking) g (a .there)) (omega arith)) (r .bound)
       (rw (arity-is (a .walking) g (a .there)) (own-bound (a .walking) g (a .there) (r .bound) (a .routine .bound)))

@@ -10,7 +10,7 @@ use Rattle.rules.specs.declared.answers.Checked.the-variants as checked
 use Rattle.rules.specs.declared.records.Instruction.{Instruction}
 use Rattle.rules.specs.Base.{refused, Check, if_then_else_, byteAt}
 use Rattle.rules.specs.Container.{payload}
-use Rattle.rules.specs.Program.{arity}
+use Rattle.rules.specs.Program.{Function}
 use Rattle.rules.specs.Records.{headOffset, programIn, functionIn}
 use Rattle.rules.specs.Stacks.{slot}
 use Rattle.rules.specs.Walk.{Arrow, arriving, first}
@@ -75,17 +75,17 @@ pub record StepAsks (file : List ℕ) (t : NameTables) (g : ℕ) (r : Routine) (
 ---- What a step says
 
 -- the shape that a slot holds
-abbrev pub standing : ℕ → Saved → Option Shape
-standing n st = if st .visited then some (shapeIn n st) else none
+abbrev pub standing : Function → Saved → Option Shape
+standing f st = if st .visited then some (shapeIn f st) else none
 
 -- the arrows that leave
-abbrev pub leaving : ℕ → Moved → List (Arrow Shape)
-leaving n m = given (m .next .visited) (m .near, shapeIn n (m .next)) (given (m .other .visited) (m .far, shapeIn n (m .other)) [])
+abbrev pub leaving : Function → Moved → List (Arrow Shape)
+leaving f m = given (m .next .visited) (m .near, shapeIn f (m .next)) (given (m .other .visited) (m .far, shapeIn f (m .other)) [])
 
 -- what is left of the walk behind a step that passed
 abbrev pub moveLeft : List ℕ → ℕ → Moved → Checked → List (Arrow Shape) → Check
 moveLeft file g m checked.Right arrows =
-    leftFrom (programIn file) g (functionIn file g) (m .on) (leaving (arity (functionIn file g)) m ++ arrows)
+    leftFrom (programIn file) g (functionIn file g) (m .on) (leaving (functionIn file g) m ++ arrows)
 moveLeft file g m (checked.Refused why) arrows = refused (refusalOf why)
 
 -- where the states go
@@ -98,6 +98,6 @@ pub record Lands (file : List ℕ) (g i : ℕ) (m : Moved) : Type 0 where
 
 -- for all arrows, of which the first to the instruction brings this state
 pub record StepSays (file : List ℕ) (g i : ℕ) (st : Saved) (m : Moved) : Type 0 where
-  pub left : (arrows : List (Arrow Shape)) → first (arriving i arrows) ≡ standing (arity (functionIn file g)) st
+  pub left : (arrows : List (Arrow Shape)) → first (arriving i arrows) ≡ standing (functionIn file g) st
       → leftFrom (programIn file) g (functionIn file g) i arrows ≡ moveLeft file g m (m .checked) arrows
   pub lands : m .checked ≡ checked.Right → Lands file g i m

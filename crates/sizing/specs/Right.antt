@@ -34,8 +34,8 @@ abbrev pub AllUnder : ℕ → List ℕ → Type 0
 AllUnder count [] = Unit {0}
 AllUnder count (v ∷ vs) = (v < count) × AllUnder count vs
 
-abbrev pub shapeIn : ℕ → Saved → Shape
-shapeIn n st = shapeOf n (splitsIn st) (st .count) (stackIn st)
+abbrev pub shapeIn : Function → Saved → Shape
+shapeIn f st = shapeOf f (splitsIn st) (st .count) (stackIn st)
 
 pub record SavedRight (s : Program) (f : Function) (st : Saved) : Type 0 where
   pub path : Path s (ownAt s f) (arity f) (splitsIn st) (st .count)
@@ -55,7 +55,7 @@ pub record Held (own x : Form) : Type 0 where
 pub record LineRight (s : Program) (f : Function) (sh : Shape) (own : Form) (stack : List Form) (height : ℕ) : Type 0 where
   pub bound : FormRight own
   pub most : AllBounded 15 131072 (formIn own)
-  pub shaped : formIn own ≡ intoBound (f .bound) (map (formOf s) (sh .parameters))
+  pub shaped : formIn own ≡ intoBound (sh .bound) (map (formOf s) (sh .parameters))
   pub long : length stack ≡ 20
   pub high : height ≤ 16
   pub held : (i : ℕ) → i < height → Held own (getD stack i noForm)

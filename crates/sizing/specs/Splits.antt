@@ -6,9 +6,9 @@ use mathlib.Core.Option.{none, some}
 use mathlib.Core.Logic.{_⊎_}
 use lib.ListN.{length, getD, take}
 use Rattle.rules.specs.declared.records.Alternative.{Alternative}
-use Rattle.rules.specs.Program.{constructor, Constructor, Program}
+use Rattle.rules.specs.Program.{constructor, Constructor, Function, Program, arity}
 use Rattle.rules.specs.Tree.{node, nil, made}
-use Rattle.rules.specs.Expressions.{Expression, variable, built, variables, replace}
+use Rattle.rules.specs.Expressions.{Expression, variable, known, variables, replace}
 use Rattle.rules.specs.Forms.{added, constantOnly, variableOnly}
 use Rattle.rules.specs.Shapes.{Shape}
 use Rattle.sizing.specs.declared.splits.Split.{Split}
@@ -19,7 +19,7 @@ variableE v = node (variable v) nil
 
 -- the expression that a split puts for its variable
 abbrev pub splitE : Split → Expression
-splitE p = made (built (p .constructor)) (variables (p .first) (p .parts))
+splitE p = made (known (p .constructor)) (variables (p .first) (p .parts))
 
 -- an expression after the splits
 unfoldable pub through : List Split → Expression → Expression
@@ -61,10 +61,14 @@ abbrev pub Whole : ℕ → List Split → Type 0
 Whole v [] = Unit {0}
 Whole v (p ∷ ps) = (v ≡ p .variable → ⊥) × Whole v ps
 
--- the shape that a stack of variables stands for
-abbrev pub shapeOf : ℕ → List Split → ℕ → List ℕ → Shape
-shapeOf n ps count stack =
-    record { parameters = map (through ps) (variables 0 n); count = count; stack = map (λ v. through ps (variableE v)) stack }
+-- the shape that a stack of variables stands for, in a function
+abbrev pub shapeOf : Function → List Split → ℕ → List ℕ → Shape
+shapeOf f ps count stack = record {
+  parameters = map (through ps) (variables 0 (arity f));
+  count = count;
+  stack = map (λ v. through ps (variableE v)) stack;
+  bound = f .bound;
+}
 
 -- n variables have come up and stand in the alternative, with coefficients of at most 15; the splits come after
 pub record Tidy (n k : ℕ) (a : Alternative) : Type 0 where

@@ -7,7 +7,7 @@ use Prim.Native.Nat.{ℕ, suc, _+_, _-_, _≤_, _<_}
 use lib.ListN.{length, take, getD}
 use Rattle.rules.specs.declared.records.Instruction.the-variants.{Branch}
 use Rattle.rules.specs.Base.{found, refused, refusal}
-use Rattle.rules.specs.Program.{constructor, Constructor, Function, Program, arity}
+use Rattle.rules.specs.Program.{constructor, Constructor, Function, Program}
 use Rattle.rules.specs.Walk.{Arrow}
 use Rattle.rules.specs.Forms.{variableOnly}
 use Rattle.rules.specs.Shapes.{Shape, shapeFrom}
@@ -44,12 +44,12 @@ abbrev pub given : {A : Type 0} → Bool → A → List A → List A
 given true x xs = x ∷ xs
 given false x xs = xs
 
-abbrev pub arrowsOf : ℕ → ℕ → ℕ → Branched → List (Arrow Shape)
-arrowsOf n i b r = given (r .next .visited) (suc i, shapeIn n (r .next)) (given (r .other .visited) (b, shapeIn n (r .other)) [])
+abbrev pub arrowsOf : Function → ℕ → ℕ → Branched → List (Arrow Shape)
+arrowsOf f i b r = given (r .next .visited) (suc i, shapeIn f (r .next)) (given (r .other .visited) (b, shapeIn f (r .other)) [])
 
 pub record BranchSays (s : Program) (n : ℕ) (f : Function) (i b c parts : ℕ) (st : Saved) (r : Branched) : Type 0 where
-  pub large : r .large ≡ true → shapeFrom s n f i (Branch c b) (shapeIn (arity f) st) ≡ refused (refusal 9 n i)
-  pub goes : r .large ≡ false → shapeFrom s n f i (Branch c b) (shapeIn (arity f) st) ≡ found (arrowsOf (arity f) i b r)
+  pub large : r .large ≡ true → shapeFrom s n f i (Branch c b) (shapeIn f st) ≡ refused (refusal 9 n i)
+  pub goes : r .large ≡ false → shapeFrom s n f i (Branch c b) (shapeIn f st) ≡ found (arrowsOf f i b r)
   pub next : r .next .visited ≡ true → SavedRight s f (r .next) × (r .next .height ≡ st .height - 1 + parts)
   pub other : r .other .visited ≡ true → SavedRight s f (r .other) × (r .other .height ≡ st .height)
 

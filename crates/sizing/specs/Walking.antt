@@ -8,7 +8,6 @@ use Rattle.rules.specs.declared.records.Instruction.{Instruction}
 use Rattle.rules.specs.declared.records.Instruction.the-variants.{Load, Build, Call, Branch, Return, Stop}
 use Rattle.rules.specs.Base.{refused, Check, byteAt}
 use Rattle.rules.specs.Container.{payload}
-use Rattle.rules.specs.Program.{arity}
 use Rattle.rules.specs.Records.{headOffset, programIn, functionIn}
 use Rattle.rules.specs.Stacks.{slot}
 use Rattle.rules.specs.Walk.{Arrow, arriving, first}
@@ -58,6 +57,6 @@ Further start (Refused why) = Unit {0}
 
 -- for all arrows, of which the first to the start brings this state
 pub record LineSays (file : List ℕ) (g start : ℕ) (st : Saved) (r : Straight) : Type 0 where
-  pub left : (arrows : List (Arrow Shape)) → first (arriving start arrows) ≡ some (shapeIn (arity (functionIn file g)) st)
+  pub left : (arrows : List (Arrow Shape)) → first (arriving start arrows) ≡ some (shapeIn (functionIn file g) st)
       → leftFrom (programIn file) g (functionIn file g) start arrows ≡ lineLeft file g r arrows
   pub further : Further start r

@@ -3,9 +3,9 @@ ghost use mathlib.Core.Path.{_≡_};
 ghost use mathlib.Core.List.{List};
 ghost use Prim.Native.Nat.{ℕ, _≤_};
 ghost use Rattle.rules.specs.Answers.{toldCheck};
-ghost use Rattle.rules.specs.Base.{only, if_then_else_};
+ghost use Rattle.rules.specs.Base.{if_then_else_};
 ghost use Rattle.rules.specs.Records.{programIn, functionIn};
-ghost use Rattle.rules.specs.Shapes.{shapesOf, sizesRight};
+ghost use Rattle.rules.specs.Shapes.{sizesOf, sizesRight};
 ghost use Rattle.rules.specs.declared.records.Instruction.the-variants as ins;
 ghost use Rattle.rules.specs.Established.{Typechecked, LaidOut};
 ghost use Rattle.tables.specs.Tables.{Tabled};
@@ -200,7 +200,7 @@ fn function_sizes(
     g: usize,
 ) -> Checked
     requires { ⌜ FunctionAsks (now file) (nameTables (now constructors) (now functions) (now alternatives)) g ⌝ }
-    ensures { λ r. ⌜ toldCheck r ≡ only (shapesOf (programIn (now (file .entry))) g (functionIn (now (file .entry)) g)) ⌝ }
+    ensures { λ r. ⌜ toldCheck r ≡ sizesOf (programIn (now (file .entry))) g (functionIn (now (file .entry)) g) ⌝ }
 {
     let f = routine_of(functions, alternatives, g);
     let mut saved = [unvisited(); 258];

@@ -1,21 +1,23 @@
--- A function's code in the payload, as the passes read it: an instruction at each offset, and a walk over them.
+-- A function's code in the payload, as the passes read it: an instruction at each offset, and a test of each.
 use mathlib.Core.Path.{_≡_, refl, ap, _∙_}
 use mathlib.Core.List.{List}
-use Prim.Native.Nat.{ℕ, _+_, _≤_, _<_}
+use mathlib.Core.Option.{Option, some}
+use Prim.Native.Nat.{ℕ, suc, _+_, _≤_, _<_}
 use native.Mathlib.Omega.{arith}
-use native.Mathlib.Nat.{sub-zero}
+use native.Mathlib.Nat.{zero-add}
 use lib.ListN.{length, getD}
 use Rattle.rules.specs.declared.records.Instruction.{Instruction}
-use Rattle.rules.specs.Base.{Tried, only, wordAt, numbered}
+use Rattle.rules.specs.Base.{Tried, Check, wordAt, numbered, forEach}
 use Rattle.rules.specs.There.{FunctionThere}
 use Rattle.rules.specs.Established.{Verified}
 use Rattle.rules.specs.Container.{payload}
 use Rattle.rules.specs.Records.{instructionAt, instructionOf, codeOffset, headOffset, instructionOffset, functionOf}
-use Rattle.rules.specs.Walk.{Arrow, walk}
-use Rattle.rules.proofs.NumberedLaws.{numbered-length}
+use Rattle.rules.specs.Stacks.{slot}
+use Rattle.rules.specs.Walk.{Arrow, stateAt, along}
+use Rattle.rules.proofs.NumberedLaws.{numbered-length, numbered-at}
 use Rattle.tables.specs.Tables.{RowThere}
 use Rattle.tables.specs.declared.code.Code.{Code}
-use Rattle.rules.proofs.WalkingLaws.{rest}
+use Rattle.rules.proofs.WalkingLaws.{along-numbered}
 
 -- instruction i, from 0, of code at an offset
 abbrev pub codeAt : List ℕ → ℕ → ℕ → Instruction
@@ -59,7 +61,12 @@ module _ {bytes : List ℕ} {at : ℕ} {c : Code} (t : CodeThere bytes at c) whe
   pub code-length : length (functionOf bytes at .code) ≡ c .last
   code-length = ap length code-is ∙ numbered-length (codeAt bytes (c .base)) (c .last) 0
 
-  -- the walk over the function's code
-  pub code-walk : {S : Type 0} (rule : ℕ → Instruction → List S → Tried (List (Arrow S))) (start : List (Arrow S))
-      → rest rule (codeAt bytes (c .base)) (c .last) 0 start ≡ only (walk rule 1 start (functionOf bytes at .code))
-  code-walk rule start = rw (code-is, sub-zero)
+  -- instruction k + 1 of the function, and a test of each with the state there
+  pub code-slot : (k : ℕ) → k < c .last → slot (suc k) (functionOf bytes at .code) ≡ some (codeAt bytes (c .base) k)
+  code-slot k h = rw code-is (numbered-at (codeAt bytes (c .base)) (c .last) 0 k h ∙ rw (zero-add k))
+
+  pub code-along : {S : Type 0} (rule : ℕ → Instruction → S → Tried (List (Arrow S))) (roots : ℕ → Option S)
+      (test : ℕ → Instruction → Option S → Check)
+      → along rule roots (functionOf bytes at .code) test
+      ≡ forEach (λ k. test (suc k) (codeAt bytes (c .base) k) (stateAt rule roots (functionOf bytes at .code) (suc k))) 0 (c .last)
+  code-along rule roots test = along-numbered rule roots (codeAt bytes (c .base)) (c .last) code-is test

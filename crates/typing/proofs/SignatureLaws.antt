@@ -3,7 +3,7 @@
 use mathlib.Core.Path.{_≡_, refl, ap, _∙_}
 use mathlib.Core.List.{List, [], _++_}
 use mathlib.Core.Option.{Option, none, some}
-use mathlib.Core.Bool.{Bool, true}
+use mathlib.Core.Bool.{true}
 use Prim.Native.Nat.{ℕ, _≤_, _<_}
 use native.Mathlib.Omega.{arith}
 use native.Mathlib.Nat.{zero-add}
@@ -11,7 +11,7 @@ use lib.ListN.{getD}
 use Rattle.rules.specs.declared.records.Declaration.{Declaration}
 use Rattle.rules.specs.declared.records.Header.{Header}
 use Rattle.rules.specs.declared.records.Instruction.the-variants.{Build, Call, Branch}
-use Rattle.rules.specs.Base.{found, passed, refusal, orRefuse, _>>=_, byteAt}
+use Rattle.rules.specs.Base.{passed, refusal, orRefuse, _>>=_, byteAt}
 use Rattle.rules.specs.Container.{payload}
 use Rattle.rules.specs.Established.{Headed}
 use Rattle.rules.specs.Program.{Constructor, Function, Program, constructor, function}
@@ -19,7 +19,7 @@ use Rattle.rules.specs.Records.{declarationAt, constructorAt, constructorOffset
 use Rattle.rules.specs.Records.{programOf, programIn, functionIn}
 use Rattle.rules.specs.Flow.{flowOf, flowRight}
 use Rattle.rules.specs.Types.{typeRule}
-use Rattle.rules.proofs.TriedLaws.{each-found}
+use Rattle.rules.proofs.EachLaws.{each-from-0}
 use Rattle.rules.proofs.NumberedLaws.{numbered-at, numbered-past}
 use Rattle.tables.specs.Tables.{signatureIn}
 use Rattle.operands.specs.declared.stack.Stack.{Stack}
@@ -59,12 +59,9 @@ module _ {file : List ℕ} {h : Header} (o : Headed file h) where
       ∙ ap (λ (x : ℕ). some (functionIn file x)) (zero-add g)
 
   -- the flow of a function, where that of all has passed
-  pub flow-passed : flowRight (programIn file) ≡ passed → (g : ℕ) → g < h .functions
-      → (table : List (List Bool)) × (flowOf g (functionIn file g) ≡ found table)
+  pub flow-passed : flowRight (programIn file) ≡ passed → (g : ℕ) → g < h .functions → flowOf g (functionIn file g) ≡ passed
   unfolding flowRight
-  flow-passed e g l =
-      let r = each-found flowOf 0 (programIn file .functions) e g (function-known g l) in
-      (r .0, rw (zero-add g) at (r .1))
+  flow-passed e g l = each-from-0 flowOf (programIn file .functions) .0 e g (functionIn file g) (function-known g l)
 
 ---- What a lookup finds
 

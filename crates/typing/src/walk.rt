@@ -2,7 +2,6 @@
 ghost use mathlib.Core.Path.{_≡_};
 ghost use Prim.Native.Nat.{_<_};
 ghost use Rattle.rules.specs.Answers.{toldCheck};
-ghost use Rattle.rules.specs.Base.{only};
 ghost use Rattle.rules.specs.Records.{programIn, functionIn};
 ghost use Rattle.rules.specs.Types.{typesOf, typesRight};
 ghost use Rattle.rules.specs.Established.{Flowing};
@@ -23,7 +22,7 @@ fn types_of(
     g: usize,
 ) -> Checked
     requires { ⌜ Flowing (now file) × Named (now file) header (now constructors) (now functions) × (g < header .functions) ⌝ }
-    ensures { λ r. ⌜ toldCheck r ≡ only (typesOf (programIn (now (file .entry))) g (functionIn (now (file .entry)) g)) ⌝ }
+    ensures { λ r. ⌜ toldCheck r ≡ typesOf (programIn (now (file .entry))) g (functionIn (now (file .entry)) g) ⌝ }
 {
     let row = functions[g];
     let signature = tables::signature_in(row);

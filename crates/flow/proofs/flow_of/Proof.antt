@@ -1,4 +1,4 @@
--- The loop keeps that each slot holds the number of what arrives, and that the rest of the walk is the whole.
+-- The loop keeps that each slot holds what has arrived there so far, and that the rules of the first k instructions have passed.
 use Prim.Native.Nat.{_-_, _≤_}
 use native.Mathlib.Omega.{arith}
 use borrow.Author.Needs.{needs}
@@ -44,7 +44,7 @@ instruction-requires c κs =
 array-read-flow-step : tie.Need-array-read-flow-step Inv-loop μ-loop
 array-read-flow-step c =
     let at-loop = c .before .before .before in
-    omega (arith, code-short (at-loop .loop .inv .code), at-loop .loop .inv .walking .room)
+    omega (arith, code-short (at-loop .loop .inv .code), at-loop .loop .inv .room)
 
 flow-step-requires : tie.Need-flow-step-requires Inv-loop μ-loop
 flow-step-requires c κs = omega (arith, code-short (c .before .before .before .loop .inv .code))

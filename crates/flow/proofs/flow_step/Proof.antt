@@ -9,13 +9,13 @@ ends-requires : tie.Need-ends-requires
 ends-requires c κs = search needs
 
 returns : tie.Need-returns
-returns c = λ paths is. step-wrong _ _ _ _ paths is (c .ends .ensures) (λ l l′. omega (arith, c .before .if1 .taken))
+returns c = λ n o s. step-wrong _ _ _ s (c .ends .ensures) (λ l l′. omega (arith, c .before .if1 .taken))
 
 ends-requires-2 : tie.Need-ends-requires-2
 ends-requires-2 c κs = search needs
 
 returns-2 : tie.Need-returns-2
-returns-2 c = λ paths is. step-wrong _ _ _ _ paths is (c .ends2 .ensures) (λ l l′. omega (arith, c .before .if2 .taken))
+returns-2 c = λ n o s. step-wrong _ _ _ s (c .ends2 .ensures) (λ l l′. omega (arith, c .before .if2 .taken))
 
 enum-told : tie.Need-enum-told
 enum-told c = search needs
@@ -58,7 +58,7 @@ returns-3 c =
     let at-enum-told = c .before in
     let at-if2 = at-enum-told .before .before in
     let at-if1 = at-if2 .before in
-    λ paths is. step-one _ _ _ _ paths is (at-if1 .if1 .left) (at-if2 .if2 .left)
+    λ n o s. step-one _ _ _ s (at-if1 .if1 .left) (at-if2 .if2 .left)
     (one-load _ _ _ _ (at-enum-told .enum-told .given .1) (c .onward .ensures))
 
 returns-4 : tie.Need-returns-4
@@ -66,7 +66,7 @@ returns-4 c =
     let at-enum-told2 = c .before in
     let at-if2 = at-enum-told2 .before .before in
     let at-if1 = at-if2 .before in
-    λ paths is. step-one _ _ _ _ paths is (at-if1 .if1 .left) (at-if2 .if2 .left)
+    λ n o s. step-one _ _ _ s (at-if1 .if1 .left) (at-if2 .if2 .left)
     (one-build _ _ _ _ (at-enum-told2 .enum-told2 .given .1) (c .onward2 .ensures))
 
 returns-5 : tie.Need-returns-5
@@ -74,7 +74,7 @@ returns-5 c =
     let at-enum-told3 = c .before in
     let at-if2 = at-enum-told3 .before .before in
     let at-if1 = at-if2 .before in
-    λ paths is. step-one _ _ _ _ paths is (at-if1 .if1 .left) (at-if2 .if2 .left)
+    λ n o s. step-one _ _ _ s (at-if1 .if1 .left) (at-if2 .if2 .left)
     (one-call _ _ _ _ (at-enum-told3 .enum-told3 .given .1) (c .onward3 .ensures))
 
 returns-6 : tie.Need-returns-6
@@ -82,7 +82,7 @@ returns-6 c =
     let at-ins = c .before .before in
     let at-if2 = at-ins .before .before in
     let at-if1 = at-if2 .before in
-    λ paths is. step-one _ _ _ _ paths is (at-if1 .if1 .left) (at-if2 .if2 .left)
+    λ n o s. step-one _ _ _ s (at-if1 .if1 .left) (at-if2 .if2 .left)
     (one-branch _ _ _ _ _ (at-ins .ins .given .1) (c .fork .ensures _))
 
 returns-7 : tie.Need-returns-7
@@ -90,7 +90,7 @@ returns-7 c =
     let at-enum-told4 = c .before in
     let at-if2 = at-enum-told4 .before .before in
     let at-if1 = at-if2 .before in
-    λ paths is. step-one _ _ _ _ paths is (at-if1 .if1 .left) (at-if2 .if2 .left)
+    λ n o s. step-one _ _ _ s (at-if1 .if1 .left) (at-if2 .if2 .left)
     (one-return _ _ _ (at-enum-told4 .enum-told4 .given .1) (c .ends3 .ensures))
 
 returns-8 : tie.Need-returns-8
@@ -98,7 +98,7 @@ returns-8 c =
     let at-enum-told5 = c .before in
     let at-if2 = at-enum-told5 .before .before in
     let at-if1 = at-if2 .before in
-    λ paths is. step-one _ _ _ _ paths is (at-if1 .if1 .left) (at-if2 .if2 .left)
+    λ n o s. step-one _ _ _ s (at-if1 .if1 .left) (at-if2 .if2 .left)
     (one-stop _ _ _ (at-enum-told5 .enum-told5 .given .1) (c .ends4 .ensures))
 
 pub flow-step-spec : {M : Type 1} → statement M

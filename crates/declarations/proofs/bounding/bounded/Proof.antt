@@ -1,8 +1,7 @@
 -- `bounded` meets its contract: at each turn what is left to check is the functions from `g` on.
-use mathlib.Core.Path.{sym, ap, _∙_}
+use mathlib.Core.Path.{sym, _∙_}
 use Prim.Native.Nat.{_-_}
 use native.Mathlib.Omega.{arith}
-use Rattle.rules.specs.Base.{only}
 use Rattle.rules.specs.Container.{payload}
 use Rattle.rules.specs.Declarations.{boundRule, boundsRight}
 use Rattle.rules.proofs.PassLaws.{Passing, pass-first, pass-stop, pass-next, pass-end, told-as}
@@ -48,7 +47,7 @@ returns c =
     let start = at-loop .before .before .before .before .before in
     pass-stop (at-loop .loop .inv) (at-loop-test .loop-test .taken)
     (function-here (start .pre) boundRule (at-loop .loop .g) (at-loop-test .loop-test .taken)
-    (ap only (told-as (at-function-bounded .function-bounded .ensures) (at-checked .checked .given .1))))
+    (told-as (at-function-bounded .function-bounded .ensures) (at-checked .checked .given .1)))
     ∙ sym (functions-pass (start .pre .headed) boundRule)
 
 enum-told : tie.Need-enum-told Inv-loop μ-loop
@@ -68,7 +67,7 @@ loop-again c =
     let start = at-loop .before .before .before .before .before in
     pass-next (at-loop .loop .inv) (at-loop-test .loop-test .taken)
     (function-here (start .pre) boundRule (at-loop .loop .g) (at-loop-test .loop-test .taken)
-    (ap only (told-as (at-function-bounded .function-bounded .ensures) (c .enum-told .given .1))))
+    (told-as (at-function-bounded .function-bounded .ensures) (c .enum-told .given .1)))
 
 returns-2 : tie.Need-returns-2 Inv-loop μ-loop
 unfolding boundsRight

@@ -2,7 +2,7 @@
 use mathlib.Core.Path.{sym, ap, _∙_, subst}
 use Prim.Native.Nat.{_-_, _≤_}
 use Rattle.rules.specs.declared.records.ConstructorRecord.{ConstructorRecord}
-use Rattle.rules.specs.Base.{refusal, only}
+use Rattle.rules.specs.Base.{refusal}
 use Rattle.rules.specs.Container.{payload}
 use Rattle.rules.specs.Declarations.{constructorRule}
 use Rattle.rules.specs.Records.{constructorAt, programIn}
@@ -59,7 +59,7 @@ returns c =
     (at-read .constructor .ensures ∙ ap (constructorAt (payload (start .args .file .now))) (at-offset .constructor-offset .ensures))
     (at-declared .constructor-declared .ensures) in
     pass-stop (at-loop .loop .inv) (at-test .loop-test .taken)
-    (ap only (test-fails (at-declared .constructor-declared .result) says (c .if1 .taken)))
+    (test-fails (at-declared .constructor-declared .result) says (c .if1 .taken))
     ∙ sym (constructors-pass (start .pre) _)
 
 add-k : tie.Need-add-k Inv-loop μ-loop
@@ -81,7 +81,7 @@ loop-again c =
     (at-read .constructor .ensures ∙ ap (constructorAt (payload (start .args .file .now))) (at-offset .constructor-offset .ensures))
     (at-declared .constructor-declared .ensures) in
     pass-next (at-loop .loop .inv) (at-test .loop-test .taken)
-    (ap only (test-holds (at-declared .constructor-declared .result) (refusal 5 0 (at-loop .loop .k)) says (c .if1 .left)))
+    (test-holds (at-declared .constructor-declared .result) (refusal 5 0 (at-loop .loop .k)) says (c .if1 .left))
 
 returns-2 : tie.Need-returns-2 Inv-loop μ-loop
 returns-2 c = pass-end (c .before .loop .inv) (c .loop-test .left) ∙ sym (constructors-pass (c .before .before .before .before .pre) _)

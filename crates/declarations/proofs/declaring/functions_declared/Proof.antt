@@ -1,9 +1,9 @@
 -- `functions_declared` meets its contract: at each turn what is left to check is the functions from `g` on.
-use mathlib.Core.Path.{sym, ap, _∙_, subst}
+use mathlib.Core.Path.{sym, _∙_, subst}
 use Prim.Native.Nat.{_-_, _≤_}
 use native.Mathlib.Omega.{arith}
 use Rattle.rules.specs.declared.records.Declaration.{Declaration}
-use Rattle.rules.specs.Base.{refusal, only}
+use Rattle.rules.specs.Base.{refusal}
 use Rattle.rules.specs.Container.{payload}
 use Rattle.rules.specs.Declarations.{signatureRule}
 use Rattle.rules.specs.Records.{programOf, programIn}
@@ -59,9 +59,9 @@ returns c =
     pass-stop (at-loop .loop .inv) (at-loop-test .loop-test .taken)
     (function-here (start .pre) (signatureRule (programOf (payload (start .args .file .now)) .types)) (at-loop .loop .g)
     (at-loop-test .loop-test .taken)
-    (ap only (test-fails (at-types-below .types-below .result)
+    (test-fails (at-types-below .types-below .result)
     (signature-says (start .pre .headed) (at-loop .loop .g) _ (at-declaration .declaration .ensures)
-    (at-types-below .types-below .ensures)) (c .if1 .taken)))) ∙ sym (functions-pass (start .pre .headed) _)
+    (at-types-below .types-below .ensures)) (c .if1 .taken))) ∙ sym (functions-pass (start .pre .headed) _)
 
 add-g : tie.Need-add-g Inv-loop μ-loop
 add-g c = search needs
@@ -79,9 +79,9 @@ loop-again c =
     pass-next (at-loop .loop .inv) (at-loop-test .loop-test .taken)
     (function-here (start .pre) (signatureRule (programOf (payload (start .args .file .now)) .types)) (at-loop .loop .g)
     (at-loop-test .loop-test .taken)
-    (ap only (test-holds (at-types-below .types-below .result) (refusal 5 1 (at-loop .loop .g))
+    (test-holds (at-types-below .types-below .result) (refusal 5 1 (at-loop .loop .g))
     (signature-says (start .pre .headed) (at-loop .loop .g) _ (at-declaration .declaration .ensures)
-    (at-types-below .types-below .ensures)) (c .if1 .left))))
+    (at-types-below .types-below .ensures)) (c .if1 .left)))
 
 returns-2 : tie.Need-returns-2 Inv-loop μ-loop
 returns-2 c =

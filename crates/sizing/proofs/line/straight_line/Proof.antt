@@ -38,13 +38,13 @@ abbrev μ-loop : tie.MeasureT-loop
 -- the line as it stands where the loop begins again
 goes : (c : tie.At-loop Inv-loop μ-loop) → let s = c .before .before .before .before .before .before in
     LineGoes (s .args .file .now) (s .args .g) (s .args .start)
-    (shapeIn (arity (functionIn (s .args .file .now) (s .args .g))) (s .args .st)) (c .before .before .own-form .result)
+    (shapeIn (functionIn (s .args .file .now) (s .args .g)) (s .args .st)) (c .before .before .own-form .result)
     (c .loop .stack) (c .loop .height) (c .loop .j)
 goes c =
     let at-stack-forms = c .before in
     let at-own-form = at-stack-forms .before in
     let s = c .before .before .before .before .before .before in
-    c .loop .inv (shapeIn (arity (functionIn (s .args .file .now) (s .args .g))) (s .args .st))
+    c .loop .inv (shapeIn (functionIn (s .args .file .now) (s .args .g)) (s .args .st))
     (line-right (s .pre) (at-own-form .own-form .result) (at-stack-forms .stack-forms .result) (at-own-form .own-form .ensures)
     (at-stack-forms .stack-forms .ensures))
 

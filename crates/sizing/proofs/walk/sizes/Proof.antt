@@ -4,7 +4,7 @@ use Prim.Native.Nat.{_-_}
 use native.Mathlib.Omega.{arith}
 use Rattle.rules.specs.Container.{payload}
 use Rattle.rules.specs.Records.{programIn}
-use Rattle.rules.specs.Shapes.{shapesOf, sizesRight}
+use Rattle.rules.specs.Shapes.{sizesOf, sizesRight}
 use Rattle.rules.proofs.PassLaws.{Passing, pass-first, pass-stop, pass-next, pass-end, told-as}
 use Rattle.program.proofs.LayoutLaws.{atFunction, functions-few, functions-pass}
 use Rattle.sizing.proofs.SizesLaws.{sizes-asks}
@@ -13,7 +13,7 @@ use Rattle.sizing.proofs.walk.sizes.Statement.{statement}
 use Rattle.sizing.proofs.walk.sizes.Tie as tie
 
 abbrev Inv-loop : tie.InvT-loop
-Inv-loop file heads constructors functions alternatives m g₀ g = Passing (atFunction (shapesOf (programIn file)) (payload file)) m g
+Inv-loop file heads constructors functions alternatives m g₀ g = Passing (atFunction (sizesOf (programIn file)) (payload file)) m g
 
 abbrev μ-loop : tie.MeasureT-loop
 μ-loop file heads constructors functions alternatives m g₀ g = m - g
@@ -50,7 +50,7 @@ returns c =
     let start = at-loop .before .before .before .before in
     pass-stop (at-loop .loop .inv) (at-loop-test .loop-test .taken)
     (told-as (at-function-sizes .function-sizes .ensures) (at-r .r .given .1))
-    ∙ sym (functions-pass (start .pre .2 .headed) (shapesOf (programIn _)))
+    ∙ sym (functions-pass (start .pre .2 .headed) (sizesOf (programIn _)))
 
 enum-told : tie.Need-enum-told Inv-loop μ-loop
 enum-told c = search needs
@@ -73,7 +73,7 @@ returns-2 : tie.Need-returns-2 Inv-loop μ-loop
 unfolding sizesRight
 returns-2 c =
     pass-end (c .before .loop .inv) (c .loop-test .left)
-    ∙ sym (functions-pass (c .before .before .before .before .before .pre .2 .headed) (shapesOf (programIn _)))
+    ∙ sym (functions-pass (c .before .before .before .before .before .pre .2 .headed) (sizesOf (programIn _)))
 
 pub sizes-spec : {M : Type 1} → statement M
 sizes-spec =

@@ -1,4 +1,4 @@
--- The loop keeps that each slot holds the stack that arrives, and that the rest of the walk is the whole.
+-- The loop keeps that each slot holds the types handed on so far, and that what is left of the pass is the instructions from k + 1 on.
 use Prim.Native.Nat.{_-_, _≤_}
 use native.Mathlib.Omega.{arith}
 use borrow.Author.Needs.{needs}
@@ -56,7 +56,7 @@ loop-holds c =
     typing-start _ _ _ _ (code-there _ (start .pre .1 .tabled .headed .parsed .verified)
     (row-there (start .pre .1 .tabled .headed) (start .pre .1 .tabled .function) (start .args .g) (start .pre .2))
     (at-code-of .code-of .ensures)) (flow-passed (start .pre .1 .tabled .headed) (start .pre .0 .flow) (start .args .g)
-    (start .pre .2) .1) (at-empty .empty .result) (c .push-arguments .result)
+    (start .pre .2)) (at-empty .empty .result) (c .push-arguments .result)
     (own-start _ _ (function-signature (start .pre .1) (start .args .g) (start .pre .2) (at-signature-in .signature-in .ensures) .0)
     (at-empty .empty .ensures) (c .push-arguments .ensures))
 
