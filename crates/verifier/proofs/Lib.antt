@@ -1,1 +1,2 @@
 pub mod ExamineLaws
+pub mod Exactly
