@@ -7,6 +7,9 @@ pub mod RuleLaws
 pub mod FormLaws
 pub mod Models
 pub mod MachineLaws
+pub mod MapLaws
+pub mod HeapLaws
+pub mod HeapGrowth
 pub mod Progress
 pub mod TypedSound
 pub mod Sound
@@ -27,6 +30,7 @@ pub mod Calls
 pub mod Cover
 pub mod Reachable
 pub mod RunLaws
+pub mod HeapRun
 pub mod RoomLaws
 pub mod Promise
 pub mod ResultLaws

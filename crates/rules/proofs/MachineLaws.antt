@@ -18,9 +18,9 @@ pub bind-some : {A B : Type 0} (o : Option A) (f : A → Option B) {b : B} → (
 bind-some none f e = none-some e
 bind-some (some a) f e = (a, refl, e)
 
--- the top value is one of all
-pub all-top : {P : Value → Type 0} {xs : List Value} {v : Value} → top xs ≡ some v → All P xs → P v
-all-top {P} {xs} e h =
+-- the top of a stack is one of all
+pub all-top : {A : Type 0} {P : A → Type 0} {xs : List A} {v : A} → top xs ≡ some v → All P xs → P v
+all-top {xs = xs} e h =
     let r = bind-some (split 1 xs) (λ parts. slot 1 (parts .1)) e in
     all-slot 1 (r .2) (all-parts 1 (r .1) h .1)
 

@@ -1,6 +1,6 @@
 -- A result's length fits 32 bits: it is at most 1 and four times its size, which the size bound keeps small.
 use mathlib.Core.Path.{_≡_, refl, sym, ap, _∙_}
-use mathlib.Core.List.{List, [], _∷_, _++_, map}
+use mathlib.Core.List.{List, [], _∷_, _++_}
 use mathlib.Core.Option.{Option, none, some}
 use Prim.Native.Nat.{ℕ, suc, _+_, _*_, _≤_, _<_, zero-le}
 use native.Mathlib.Omega.{arith}
@@ -22,16 +22,13 @@ use Rattle.rules.proofs.Accepted.{Passed, checked-parts}
 use Rattle.rules.proofs.ProgramLaws.{weight-most, weight-least, bound-numbers}
 use Rattle.rules.proofs.Reachable.{begins, kept-after, result-kept}
 use Rattle.rules.specs.Quasi.{total}
+use Rattle.rules.proofs.MapLaws.{map-append}
 
 ---- Sizes
 
 total-append : (xs ys : List ℕ) → total (xs ++ ys) ≡ total xs + total ys
 total-append [] ys = omega arith
 total-append (x ∷ xs) ys = omega (arith, total-append xs ys)
-
-map-append : {A B : Type 0} (g : A → B) (xs ys : List A) → map g (xs ++ ys) ≡ map g xs ++ map g ys
-map-append g [] ys = refl
-map-append {B = B} g (x ∷ xs) ys = ap (λ (l : List B). g x ∷ l) (map-append g xs ys)
 
 bound-small : (bound : List Alternative) (zs : List ℕ) (K : ℕ) → All (λ a. valueAt zs a ≤ K) bound → boundAt bound zs ≤ K
 bound-small [] zs K h = zero-le

@@ -19,7 +19,8 @@ use Rattle.rules.specs.Check.{checked}
 use Rattle.rules.specs.Machine.{Value, State, start, after, resultOf}
 use Rattle.rules.specs.Values.{Has, Typed}
 use Rattle.rules.specs.Prefix.{argumentsRight, values, written, writtenAll}
-use Rattle.rules.specs.Run.{Lent, refusedWith, run}
+use Rattle.rules.specs.Run.{Lent, Tables, refusedWith, started, run}
+use Rattle.rules.specs.HeapRun.{startedOn}
 use Rattle.rules.specs.Quasi.{Correct}
 use Rattle.rules.specs.Types.{typesAt, typesRight}
 use Rattle.rules.specs.Judgements.{WellTyped}
@@ -102,6 +103,12 @@ RoomFact =
     → ((r : Refusal) → run file entry arguments budget lent .ending ≡ refusedWith r
     → (r .number ≡ 15 → ⊥) × (r .number ≡ 16 → ⊥) × (r .number ≡ 17 → ⊥))
     → run file entry arguments budget more ≡ run file entry arguments budget lent
+
+-- The run over heap cells, in which "Every argument byte and every build takes a cell, and a cell only ever names cells made before it",
+-- answers as the run over values
+abbrev pub HeapFact : Type 0
+HeapFact = (s : Program) (m : Tables) (budget entry : ℕ) (bytes : List ℕ)
+    → startedOn s m budget entry bytes ≡ started s m budget entry bytes
 
 -- Definition 3: where the check accepts, 001's inequality holds at each visited instruction for all sizes of the variables, which are at
 -- most 16

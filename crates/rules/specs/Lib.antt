@@ -19,7 +19,9 @@ pub mod Machine
 pub mod Values
 pub mod Quasi
 pub mod Prefix
+pub mod Heap
 pub mod Run
+pub mod HeapRun
 pub mod Memory
 pub mod Answers
 pub mod Roots

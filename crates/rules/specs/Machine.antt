@@ -42,7 +42,8 @@ frameAt i fr stack = record { function = fr .function; instruction = i; stack = 
 abbrev pub onward : Frame → List Value → Frame
 onward fr stack = frameAt (suc (fr .instruction)) fr stack
 
-abbrev pub top : List Value → Option Value
+-- the top of a stack, of values here
+abbrev pub top : {A : Type 0} → List A → Option A
 top stack = split 1 stack >>= (λ parts. slot 1 (parts .1))
 
 module _ (s : Program) where
@@ -104,7 +105,7 @@ module _ (s : Program) where
   after (suc n) st = step st >>= (λ next. after n next)
 
   -- "In the only frame: no step, the top value is the figure", which is called result here
-  unfoldable pub returned : Instruction → List Value → Option Value
+  unfoldable pub returned : {A : Type 0} → Instruction → List A → Option A
   returned (Load a) stack = none
   returned (Build c) stack = none
   returned (Call g) stack = none
