@@ -1,12 +1,9 @@
--- The total and the bytes of the arguments still to come are together the value's bytes.
-use Prim.Native.Nat.{_≤_, _+_, _-_, ℕ, _<_}
-use mathlib.Core.Path.{_≡_}
-use native.Mathlib.Omega.{arith}
-use lib.ListN.{length, getD}
-use Rattle.machine.specs.Stands.{con}
-use Rattle.machine.specs.Result.{bytesOf}
-use Rattle.machine.proofs.ResultLaws.{rest, length-all, length-none, length-more, readable-at}
+-- What is counted and the bytes still to come are together the value's bytes.
 use borrow.Author.Needs.{needs}
+use Prim.Native.Nat.{ℕ, _+_, _-_, _*_, _<_}
+use native.Mathlib.Omega.{arith}
+use Rattle.machine.proofs.ResultLaws.{Counting, counting-start, counting-few, counting-end, counting-whole, counting-next}
+use Rattle.machine.proofs.ResultLaws.{counting-last, visit-readable, visit-few}
 use borrow.Fn.Kinds.{In}
 use borrow.Fn.PlainCycle.{Measures, is, falls, and}
 use Rattle.machine.proofs.result.count_value.Reads as count-value
@@ -29,10 +26,10 @@ count-value-below t =
     and 2 count-value-kinds.ps (falls 2 count-value-kinds.ps _<_ μ-count-value t) count-value.Pre
 
 abbrev count-value-Inv-loop : count-value-lts.InvT-loop
-count-value-Inv-loop index cells k n total₀ j₀ total j = (j ≤ n) × (total + length (rest index cells k j) ≡ length (bytesOf index cells k))
+count-value-Inv-loop index cells k here₀ n₀ total₀ j₀ here n total j = Counting index cells k 0 here n total j
 
 abbrev count-value-μ-loop : count-value-lts.MeasureT-loop
-count-value-μ-loop index cells k n total₀ j₀ total j = n - j
+count-value-μ-loop index cells k here₀ n₀ total₀ j₀ here n total j = 5 * here + (n - j)
 
 count-value-arity-at-requires : (t : ℕ) → count-value-lts.Need-arity-at-requires (
   arity-at-reads.Asked,
@@ -54,7 +51,7 @@ count-value-loop-holds : (t : ℕ) → count-value-lts.Need-loop-holds (
 ) (count-value-at t) count-value.Post count-value-Inv-loop count-value-μ-loop
 count-value-loop-holds t c =
     let start = c .before .before in
-    (search needs, omega (arith, length-all (start .args .index .now) (start .args .cells .now) (start .args .k) (start .pre .1 .0)))
+    counting-start (start .args .index .now) (start .args .cells .now) (start .args .k) 0 (start .pre .1 .0) (c .arity-at .ensures)
 
 count-value-argument-at-requires : (t : ℕ) → count-value-lts.Need-argument-at-requires (
   arity-at-reads.Asked,
@@ -64,7 +61,19 @@ count-value-argument-at-requires : (t : ℕ) → count-value-lts.Need-argument-a
   count-value-below t,
   count-value.Post,
 ) (count-value-at t) count-value.Post count-value-Inv-loop count-value-μ-loop
-count-value-argument-at-requires t c κs = search needs
+count-value-argument-at-requires t c κs =
+    let l = c .before .loop in
+    (l .inv .at .readable, omega (arith, l .inv .at .arity))
+
+count-value-add-if1 : (t : ℕ) → count-value-lts.Need-add-if1 (
+  arity-at-reads.Asked,
+  arity-at-reads.Learnt,
+  argument-at-reads.Asked,
+  argument-at-reads.Learnt,
+  count-value-below t,
+  count-value.Post,
+) (count-value-at t) count-value.Post count-value-Inv-loop count-value-μ-loop
+count-value-add-if1 t c = omega (arith, counting-few (c .before .before .loop .inv))
 
 count-value-count-value-requires : (t : ℕ) → count-value-lts.Need-count-value-requires (
   arity-at-reads.Asked,
@@ -75,22 +84,12 @@ count-value-count-value-requires : (t : ℕ) → count-value-lts.Need-count-valu
   count-value.Post,
 ) (count-value-at t) count-value.Post count-value-Inv-loop count-value-μ-loop
 count-value-count-value-requires t c κs =
-    let at-loop = c .before .before in
-    let at-arity-at = at-loop .before in
-    let start = at-arity-at .before .before in
-    let p = start .pre .1 in
-    let l = at-loop .loop in
-    let r = c .argument-at in
-    let h : l .j < getD (start .args .index .now) (con (start .args .cells .now) (start .args .k)) 0 =
-    omega (arith, at-arity-at .arity-at .ensures) in
-    let x = start .args in
-    let m = length-more (x .index .now) (x .cells .now) (x .k) (p .0) (l .j) (r .result) h (r .ensures .0) in (
-      omega (arith, start .pre .0, r .ensures .1),
-      (
-        readable-at (start .args .index .now) (start .args .cells .now) (start .args .k) (p .0) (r .result) (r .ensures .1),
-        omega
-            (arith, m, l .inv .1, p .1),
-      ),
+    let start = c .before .before .before .before .before .before in
+    let l = c .before .before .before .loop in
+    let r = c .before .argument-at in
+    let whole = counting-whole (l .inv) (omega arith) (r .ensures .0) in (
+      omega (arith, start .pre .0, r .ensures .1, l .inv .low),
+      (visit-readable (l .inv .at) (omega arith) (r .ensures .0), omega (arith, whole .0, start .pre .1 .1)),
     )
 
 count-value-add-total : (t : ℕ) → count-value-lts.Need-add-total (
@@ -102,17 +101,9 @@ count-value-add-total : (t : ℕ) → count-value-lts.Need-add-total (
   count-value.Post,
 ) (count-value-at t) count-value.Post count-value-Inv-loop count-value-μ-loop
 count-value-add-total t c =
-    let at-argument-at = c .before in
-    let at-loop = at-argument-at .before .before in
-    let at-arity-at = at-loop .before in
-    let start = at-arity-at .before .before in
-    let p = start .pre .1 in
-    let l = at-loop .loop in
-    let r = at-argument-at .argument-at in
-    let h : l .j < getD (start .args .index .now) (con (start .args .cells .now) (start .args .k)) 0 =
-    omega (arith, at-arity-at .arity-at .ensures) in
-    let m = length-more (start .args .index .now) (start .args .cells .now) (start .args .k) (p .0) (l .j) (r .result) h (r .ensures .0) in
-    omega (arith, m, l .inv .1, p .1, c .count-value .ensures)
+    let start = c .before .before .before .before .before .before .before in
+    let whole = counting-whole (c .before .before .before .before .loop .inv) (omega arith) (c .before .before .argument-at .ensures .0) in
+    omega (arith, whole .0, start .pre .1 .1, c .count-value .ensures)
 
 count-value-add-j : (t : ℕ) → count-value-lts.Need-add-j (
   arity-at-reads.Asked,
@@ -122,7 +113,7 @@ count-value-add-j : (t : ℕ) → count-value-lts.Need-add-j (
   count-value-below t,
   count-value.Post,
 ) (count-value-at t) count-value.Post count-value-Inv-loop count-value-μ-loop
-count-value-add-j t c = search needs
+count-value-add-j t c = omega (arith, counting-few (c .before .before .before .before .loop .inv))
 
 count-value-loop-less : (t : ℕ) → count-value-lts.Need-loop-less (
   arity-at-reads.Asked,
@@ -132,7 +123,7 @@ count-value-loop-less : (t : ℕ) → count-value-lts.Need-loop-less (
   count-value-below t,
   count-value.Post,
 ) (count-value-at t) count-value.Post count-value-Inv-loop count-value-μ-loop
-count-value-loop-less t c = search needs
+count-value-loop-less t c = omega arith
 
 count-value-loop-again : (t : ℕ) → count-value-lts.Need-loop-again (
   arity-at-reads.Asked,
@@ -143,17 +134,57 @@ count-value-loop-again : (t : ℕ) → count-value-lts.Need-loop-again (
   count-value.Post,
 ) (count-value-at t) count-value.Post count-value-Inv-loop count-value-μ-loop
 count-value-loop-again t c =
-    let at-argument-at = c .before in
-    let at-loop = at-argument-at .before .before in
-    let at-arity-at = at-loop .before in
-    let start = at-arity-at .before .before in
-    let p = start .pre .1 in
-    let l = at-loop .loop in
-    let r = at-argument-at .argument-at in
-    let h : l .j < getD (start .args .index .now) (con (start .args .cells .now) (start .args .k)) 0 =
-    omega (arith, at-arity-at .arity-at .ensures) in
-    let m = length-more (start .args .index .now) (start .args .cells .now) (start .args .k) (p .0) (l .j) (r .result) h (r .ensures .0) in
-    (search needs, omega (arith, m, l .inv .1, c .count-value .ensures))
+    let at-loop = c .before .before .before .before in
+    rw (c .count-value .ensures) (counting-next (at-loop .loop .inv) (omega arith) (c .before .before .argument-at .ensures .0))
+
+count-value-arity-at-requires-2 : (t : ℕ) → count-value-lts.Need-arity-at-requires-2 (
+  arity-at-reads.Asked,
+  arity-at-reads.Learnt,
+  argument-at-reads.Asked,
+  argument-at-reads.Learnt,
+  count-value-below t,
+  count-value.Post,
+) (count-value-at t) count-value.Post count-value-Inv-loop count-value-μ-loop
+count-value-arity-at-requires-2 t c κs =
+    let at-loop = c .before .before .before in
+    visit-readable (at-loop .loop .inv .at) (omega arith) (c .before .argument-at .ensures .0)
+
+count-value-add-total-2 : (t : ℕ) → count-value-lts.Need-add-total-2 (
+  arity-at-reads.Asked,
+  arity-at-reads.Learnt,
+  argument-at-reads.Asked,
+  argument-at-reads.Learnt,
+  count-value-below t,
+  count-value.Post,
+) (count-value-at t) count-value.Post count-value-Inv-loop count-value-μ-loop
+count-value-add-total-2 t c =
+    let at-loop = c .before .before .before .before in
+    omega (arith, at-loop .loop .inv .sum, c .before .before .before .before .before .before .before .pre .1 .1)
+
+count-value-loop-less-2 : (t : ℕ) → count-value-lts.Need-loop-less-2 (
+  arity-at-reads.Asked,
+  arity-at-reads.Learnt,
+  argument-at-reads.Asked,
+  argument-at-reads.Learnt,
+  count-value-below t,
+  count-value.Post,
+) (count-value-at t) count-value.Post count-value-Inv-loop count-value-μ-loop
+count-value-loop-less-2 t c =
+    let r = c .before .before .argument-at in
+    let at-loop = c .before .before .before .before in
+    omega (arith, visit-few (at-loop .loop .inv .at) (omega arith) (r .ensures .0) (c .arity-at2 .ensures), r .ensures .1)
+
+count-value-loop-again-2 : (t : ℕ) → count-value-lts.Need-loop-again-2 (
+  arity-at-reads.Asked,
+  arity-at-reads.Learnt,
+  argument-at-reads.Asked,
+  argument-at-reads.Learnt,
+  count-value-below t,
+  count-value.Post,
+) (count-value-at t) count-value.Post count-value-Inv-loop count-value-μ-loop
+count-value-loop-again-2 t c =
+    let named = c .before .before .argument-at .ensures .0 in
+    counting-last (c .before .before .before .before .loop .inv) (omega arith) named (omega arith) (c .arity-at2 .ensures)
 
 count-value-returns : (t : ℕ) → count-value-lts.Need-returns (
   arity-at-reads.Asked,
@@ -163,16 +194,7 @@ count-value-returns : (t : ℕ) → count-value-lts.Need-returns (
   count-value-below t,
   count-value.Post,
 ) (count-value-at t) count-value.Post count-value-Inv-loop count-value-μ-loop
-count-value-returns t c =
-    let at-loop = c .before in
-    let at-arity-at = at-loop .before in
-    let start = at-arity-at .before .before in
-    omega (
-      arith,
-      at-loop .loop .inv .1,
-      length-none (start .args .index .now) (start .args .cells .now) (start .args .k) (start .pre .1 .0)
-          (at-loop .loop .j) (omega (arith, at-arity-at .arity-at .ensures)),
-    )
+count-value-returns t c = omega (arith, counting-end (c .before .loop .inv) (omega arith))
 
 pub +count-value-spec : {M : Type 1} → statement M
 +count-value-spec = close μ-count-value λ t. count-value-lts.spec (
@@ -190,9 +212,14 @@ pub +count-value-spec : {M : Type 1} → statement M
     (count-value-arity-at-requires t)
     (count-value-loop-holds t)
     (count-value-argument-at-requires t)
+    (count-value-add-if1 t)
     (count-value-count-value-requires t)
     (count-value-add-total t)
     (count-value-add-j t)
     (count-value-loop-less t)
     (count-value-loop-again t)
+    (count-value-arity-at-requires-2 t)
+    (count-value-add-total-2 t)
+    (count-value-loop-less-2 t)
+    (count-value-loop-again-2 t)
     (count-value-returns t)
