@@ -44,7 +44,7 @@ pub fn limits(cells: usize, stack: usize, frames: usize) -> Limits
 
 // The arguments' pending cell numbers to the stack's bottom.
 fn place_arguments(numbers: &[u16; 256], at: usize, stack: &mut [u16], n: usize)
-    requires { ⌜ (at + n ≤ 256) × (n ≤ length (now stack)) ⌝ }
+    requires { ⌜ (at + n ≤ 256) × (n ≤ length (now stack)) × (n ≤ 4) ⌝ }
     ensures { λ _. ⌜ Copied (now (numbers .entry)) at 0 n (now (stack .entry)) (now (stack .exit)) ⌝ }
 {
     machine::copy(numbers, at, stack, 0, n);

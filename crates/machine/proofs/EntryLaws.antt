@@ -98,10 +98,10 @@ top-entries v l a n h =
 
 ---- Copies
 
-pub copied-none : (from : List ℕ) (at to : ℕ) (out : List ℕ) → Copied from at to 0 out out
+copied-none : (from : List ℕ) (at to : ℕ) (out : List ℕ) → Copied from at to 0 out out
 copied-none from at to out = record { len = refl; put = λ j h. absurd (omega arith); low = λ i h. refl; high = λ i h. refl }
 
-pub copied-more : (from : List ℕ) (at to n : ℕ) (out out′ : List ℕ) → to + n < length out → Copied from at to n out out′
+copied-more : (from : List ℕ) (at to n : ℕ) (out out′ : List ℕ) → to + n < length out → Copied from at to n out out′
     → Copied from at to (n + 1) out (set out′ (to + n) (getD from (at + n) 0))
 copied-more from at to n out out′ room c = record {
   len = length-set out′ (to + n) (getD from (at + n) 0) ∙ c .len;
@@ -112,6 +112,29 @@ copied-more from at to n out out′ room c = record {
   low = λ i h. getD-set-other out′ (to + n) i (getD from (at + n) 0) 0 (λ x. omega arith) ∙ c .low i h;
   high = λ i h. getD-set-other out′ (to + n) i (getD from (at + n) 0) 0 (λ x. omega arith) ∙ c .high i (omega arith);
 }
+
+-- one to four numbers
+module _ (from : List ℕ) (at to : ℕ) (out : List ℕ) where
+  abbrev one-copied : List ℕ
+  one-copied = set out to (getD from at 0)
+
+  abbrev two-copied : List ℕ
+  two-copied = set one-copied (to + 1) (getD from (at + 1) 0)
+
+  abbrev three-copied : List ℕ
+  three-copied = set two-copied (to + 2) (getD from (at + 2) 0)
+
+  pub copied-one : to + 1 ≤ length out → Copied from at to 1 out one-copied
+  copied-one h = rw (add-zero, add-zero) at (copied-more from at to 0 out out (omega arith) (copied-none from at to out))
+
+  pub copied-two : to + 2 ≤ length out → Copied from at to 2 out two-copied
+  copied-two h = copied-more from at to 1 out one-copied (omega arith) (copied-one (omega arith))
+
+  pub copied-three : to + 3 ≤ length out → Copied from at to 3 out three-copied
+  copied-three h = copied-more from at to 2 out two-copied (omega arith) (copied-two (omega arith))
+
+  pub copied-four : to + 4 ≤ length out → Copied from at to 4 out (set three-copied (to + 3) (getD from (at + 3) 0))
+  copied-four h = copied-more from at to 3 out three-copied (omega arith) (copied-three (omega arith))
 
 pub cleared-none : (at : ℕ) (out : List ℕ) → Cleared at 0 out out
 cleared-none at out = record { len = refl; put = λ j h. absurd (omega arith); low = λ i h. refl; high = λ i h. refl }
@@ -128,24 +151,57 @@ cleared-more at n out out′ room c = record {
   high = λ i h. getD-set-other out′ (at + n) i 0 0 (λ x. omega arith) ∙ c .high i (omega arith);
 }
 
--- a constructor, its arguments, and zeros: a cell
+-- one to four zeros
+module _ (at : ℕ) (out : List ℕ) where
+  pub cleared-one : at + 1 ≤ length out → Cleared at 1 out (set out at 0)
+  cleared-one h = rw add-zero at (cleared-more at 0 out out (omega arith) (cleared-none at out))
+
+  pub cleared-two : at + 2 ≤ length out → Cleared at 2 out (set (set out at 0) (at + 1) 0)
+  cleared-two h = cleared-more at 1 out _ (omega arith) (cleared-one (omega arith))
+
+  pub cleared-three : at + 3 ≤ length out → Cleared at 3 out (set (set (set out at 0) (at + 1) 0) (at + 2) 0)
+  cleared-three h = cleared-more at 2 out _ (omega arith) (cleared-two (omega arith))
+
+  pub cleared-four : at + 4 ≤ length out → Cleared at 4 out (set (set (set (set out at 0) (at + 1) 0) (at + 2) 0) (at + 3) 0)
+  cleared-four h = cleared-more at 3 out _ (omega arith) (cleared-three (omega arith))
+
+-- a constructor, zeros, and arguments in their place: a cell
 pub placed : (used c n : ℕ) (stack : List ℕ) (from : ℕ) (out o₁ o₂ : List ℕ) → 5 * used + 5 ≤ length out → n ≤ 4
-    → Copied stack from (5 * used + 1) n (set out (5 * used) c) o₁ → Cleared (5 * used + 1 + n) (4 - n) o₁ o₂
-    → CellPut used c n stack from out o₂
-placed used c n stack from out o₁ o₂ room few p q = record {
-  len = q .len ∙ p .len ∙ length-set out (5 * used) c;
-  con = q .low (5 * used) (omega arith) ∙ p .low (5 * used) (omega arith) ∙ getD-set-same out (5 * used) c 0 (omega arith);
-  put = λ j h. q .low (5 * used + 1 + j) (omega arith) ∙ p .put j h;
-  rest = λ j h l. let e : 5 * used + 1 + n + (j - n) ≡ 5 * used + 1 + j = omega arith in rw e at (q .put (j - n) (omega arith));
-  low = λ i h. q .low i (omega arith) ∙ p .low i (omega arith) ∙ getD-set-other out (5 * used) i c 0 (λ x. omega arith);
-  high = λ i h. q .high i (omega arith) ∙ p .high i (omega arith) ∙ getD-set-other out (5 * used) i c 0 (λ x. omega arith);
+    → Cleared (5 * used + 1) 4 (set out (5 * used) c) o₁ → Copied stack from (5 * used + 1) n o₁ o₂ → CellPut used c n stack from out o₂
+placed used c n stack from out o₁ o₂ room few q p = record {
+  len = p .len ∙ q .len ∙ length-set out (5 * used) c;
+  con = p .low (5 * used) (omega arith) ∙ q .low (5 * used) (omega arith) ∙ getD-set-same out (5 * used) c 0 (omega arith);
+  put = p .put;
+  rest = λ j h l. p .high (5 * used + 1 + j) (omega arith) ∙ q .put j l;
+  low = λ i h. p .low i (omega arith) ∙ q .low i (omega arith) ∙ getD-set-other out (5 * used) i c 0 (λ x. omega arith);
+  high = λ i h. p .high i (omega arith) ∙ q .high i (omega arith) ∙ getD-set-other out (5 * used) i c 0 (λ x. omega arith);
 }
 
-pub copied-again : (at to n : ℕ) (out out′ : List ℕ) → at + n < to → to + n < length out → Copied out at to n out out′
+copied-again : (at to n : ℕ) (out out′ : List ℕ) → at + n < to → to + n < length out → Copied out at to n out out′
     → Copied out at to (n + 1) out (set out′ (to + n) (getD out′ (at + n) 0))
 copied-again at to n out out′ a room c =
     subst (λ (x : ℕ). Copied out at to (n + 1) out (set out′ (to + n) x)) (sym (c .low (at + n) a))
     (copied-more out at to n out out′ room c)
+
+-- one to four numbers of a slice to a later place of it
+module _ (at to : ℕ) (out : List ℕ) where
+  abbrev one-again : List ℕ
+  one-again = set out to (getD out at 0)
+
+  abbrev two-again : List ℕ
+  two-again = set one-again (to + 1) (getD one-again (at + 1) 0)
+
+  abbrev three-again : List ℕ
+  three-again = set two-again (to + 2) (getD two-again (at + 2) 0)
+
+  pub again-two : at + 2 ≤ to → to + 2 ≤ length out → Copied out at to 2 out two-again
+  again-two a h = copied-again at to 1 out one-again (omega arith) (omega arith) (copied-one out at to out (omega arith))
+
+  pub again-three : at + 3 ≤ to → to + 3 ≤ length out → Copied out at to 3 out three-again
+  again-three a h = copied-again at to 2 out two-again (omega arith) (omega arith) (again-two (omega arith) (omega arith))
+
+  pub again-four : at + 4 ≤ to → to + 4 ≤ length out → Copied out at to 4 out (set three-again (to + 3) (getD three-again (at + 3) 0))
+  again-four a h = copied-again at to 3 out three-again (omega arith) (omega arith) (again-three (omega arith) (omega arith))
 
 ---- Three numbers to a frame
 

@@ -1,6 +1,6 @@
 -- Laws of the argument check: what each byte leaves to be read, and what is left of the whole check.
 use Prim.Native.Nat.{ℕ, _+_, _-_, _≤_, _<_}
-use mathlib.Core.Path.{_≡_, sym, ap, _∙_, subst}
+use mathlib.Core.Path.{_≡_, sym, ap, _∙_, subst, refl}
 use mathlib.Core.List.{List, [], _∷_, _++_, append-assoc, append-nil}
 use mathlib.Core.Option.{none, some}
 use native.Mathlib.Omega.{arith}
@@ -24,15 +24,31 @@ use Rattle.machine.specs.declared.reading.Read.the-variants.{At, Bad}
 use Rattle.machine.specs.Reading.{HeadThere, Inside, ReadsByte}
 use Rattle.machine.proofs.IndexLaws.{constructor-is, held-arity}
 use Rattle.machine.proofs.ResultLaws.{sets-append}
+use native.Mathlib.Nat.{add-zero}
 
 ---- Putting types
 
-pub put-more : (l : List ℕ) (at : ℕ) (xs : List ℕ) (j : ℕ) (l′ : List ℕ) → j < length xs → l′ ≡ sets l at (take j xs)
+put-more : (l : List ℕ) (at : ℕ) (xs : List ℕ) (j : ℕ) (l′ : List ℕ) → j < length xs → l′ ≡ sets l at (take j xs)
     → set l′ (at + j) (getD xs j 0) ≡ sets l at (take (j + 1) xs)
 put-more l at xs j l′ h e =
     let n : length (take j xs) ≡ j = length-take j xs ∙ omega arith in
     let t : take (j + 1) xs ≡ take j xs ++ (getD xs j 0 ∷ []) = rw add-one (take-suc xs j 0 h) in
     sym (ap (sets l at) t ∙ sets-append l at (take j xs) (getD xs j 0 ∷ []) ∙ rw (n, ← e))
+
+-- one to four types
+module _ (l : List ℕ) (at : ℕ) (xs : List ℕ) (four : length xs ≡ 4) where
+  pub put-one : set l at (getD xs 0 0) ≡ sets l at (take 1 xs)
+  put-one = rw add-zero at (put-more l at xs 0 l (omega arith) refl)
+
+  pub put-two : set (set l at (getD xs 0 0)) (at + 1) (getD xs 1 0) ≡ sets l at (take 2 xs)
+  put-two = put-more l at xs 1 _ (omega arith) put-one
+
+  pub put-three : set (set (set l at (getD xs 0 0)) (at + 1) (getD xs 1 0)) (at + 2) (getD xs 2 0) ≡ sets l at (take 3 xs)
+  put-three = put-more l at xs 2 _ (omega arith) put-two
+
+  pub put-four : set (set (set (set l at (getD xs 0 0)) (at + 1) (getD xs 1 0)) (at + 2) (getD xs 2 0)) (at + 3) (getD xs 3 0)
+      ≡ sets l at (take 4 xs)
+  put-four = put-more l at xs 3 _ (omega arith) put-three
 
 drop-put : (l : List ℕ) (at : ℕ) (vs : List ℕ) → at + length vs ≤ length l → drop at (sets l at vs) ≡ vs ++ drop (at + length vs) l
 drop-put l at vs h =

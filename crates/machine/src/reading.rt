@@ -20,18 +20,29 @@ pub enum Read {
     Bad,
 }
 
-// The argument types of a declaration are put at a place.
+// The argument types of a declaration, four at most, are put at a place.
 fn put_types(types: &mut [u8; 256], at: usize, d: Declaration)
     requires { ⌜ (d .arity ≤ 4) × (length (d .types) ≡ 4) × (at + d .arity ≤ 256) ⌝ }
     ensures { λ _. ⌜ now (types .exit) ≡ sets (now (types .entry)) at (argumentsOf d) ⌝ }
 {
-    let n = wide(d.arity);
+    let n = d.arity;
     let four = d.types;
-    let mut j: usize = 0;
-    while j < n {
-        types[at + j] = four[j];
-        j += 1;
+    if n == 0 {
+        return;
     }
+    types[at] = four[0];
+    if n == 1 {
+        return;
+    }
+    types[at + 1] = four[1];
+    if n == 2 {
+        return;
+    }
+    types[at + 2] = four[2];
+    if n == 3 {
+        return;
+    }
+    types[at + 3] = four[3];
 }
 
 // One byte of the arguments.

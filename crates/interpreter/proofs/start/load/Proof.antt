@@ -17,6 +17,7 @@ place-arguments-requires c κs =
       omega (arith, pending-end (start .pre .0) (at-make-arguments .make-arguments .ensures .0)),
       omega
           (arith, start .pre .0 .slots, start .pre .0 .lent .place-room),
+      start .pre .0 .few,
     )
 
 same-length : tie.Need-same-length

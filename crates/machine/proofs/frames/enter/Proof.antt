@@ -89,6 +89,7 @@ copy-within-requires c κs =
         at-function-arity .function-arity .ensures .0,
       ),
       omega (arith, at-if2 .if2 .left, start .pre .0 .lent .place-room),
+      at-function-arity .function-arity .ensures .1,
     )
 
 add-t16 : tie.Need-add-t16

@@ -1,81 +1,94 @@
--- By the invariant that the first j types are put.
-use Prim.Native.Nat.{ℕ, _≤_, _-_}
-use mathlib.Core.Path.{_≡_, refl, ap, _∙_}
+-- One type after the other, as many as there are arguments.
+use mathlib.Core.Path.{_≡_}
 use native.Mathlib.Omega.{arith}
-use lib.ListN.{length, take}
-use lib.Seq.{sets}
-use Rattle.machine.proofs.ReadingLaws.{put-more}
+use Rattle.machine.proofs.ReadingLaws.{put-one, put-two, put-three, put-four}
 use borrow.Author.Needs.{needs}
 use Rattle.machine.proofs.reading.put_types.Statement.{statement}
 use Rattle.machine.proofs.reading.put_types.Tie as tie
+use Rattle.machine.proofs.reading.put_types.Reads as reads
+use Rattle.machine.proofs.reading.put_types.Lts as lts
 
-abbrev Inv-loop : tie.InvT-loop
-Inv-loop types₀ at n four j₀ types j = (j ≤ n) × (length four ≡ 4) × (types ≡ sets types₀ at (take j four))
+returns : tie.Need-returns
+returns c = search needs
 
-abbrev μ-loop : tie.MeasureT-loop
-μ-loop types₀ at n four j₀ types j = n - j
+array-read-types : tie.Need-array-read-types
+array-read-types c = search needs
 
-wide-requires : tie.Need-wide-requires Inv-loop μ-loop
-wide-requires c κs = search needs
+element-write-types : tie.Need-element-write-types
+element-write-types c = search needs
 
-loop-holds : tie.Need-loop-holds Inv-loop μ-loop
-loop-holds c = (search needs, c .before .before .pre .1, refl)
+returns-2 : tie.Need-returns-2
+returns-2 c =
+    let start = c .before .before .before in
+    let a = start .args in
+    let e : a .d .arity ≡ 1 = omega (arith, start .pre .0) in
+    rw e (put-one (a .types .now) (a .at) (a .d .types) (start .pre .1))
 
-array-read-types : tie.Need-array-read-types Inv-loop μ-loop
-array-read-types c =
-    let at-wide = c .before .before .before in
-    let start = at-wide .before in
-    omega (arith, at-wide .wide .ensures .0, start .pre .0)
+array-read-types-2 : tie.Need-array-read-types-2
+array-read-types-2 c = search needs
 
-add-types : tie.Need-add-types Inv-loop μ-loop
-add-types c =
-    let at-wide = c .before .before .before in
-    let start = at-wide .before in
-    omega (arith, at-wide .wide .ensures .0, start .pre .2)
+add-types : tie.Need-add-types
+add-types c = search needs
 
-element-write-types : tie.Need-element-write-types Inv-loop μ-loop
-element-write-types c =
-    let at-wide = c .before .before .before in
-    let start = at-wide .before in
-    omega (arith, at-wide .wide .ensures .0, start .pre .2)
+element-write-types-2 : tie.Need-element-write-types-2
+element-write-types-2 c = search needs
 
-add-j : tie.Need-add-j Inv-loop μ-loop
-add-j c = search needs
+returns-3 : tie.Need-returns-3
+returns-3 c =
+    let start = c .before .before .before .before in
+    let a = start .args in
+    let e : a .d .arity ≡ 2 = omega (arith, start .pre .0) in
+    rw e (put-two (a .types .now) (a .at) (a .d .types) (start .pre .1))
 
-loop-less : tie.Need-loop-less Inv-loop μ-loop
-loop-less c = search needs
+array-read-types-3 : tie.Need-array-read-types-3
+array-read-types-3 c = search needs
 
-loop-again : tie.Need-loop-again Inv-loop μ-loop
-loop-again c =
-    let at-loop = c .before in
-    let at-wide = at-loop .before .before in
-    let start = at-wide .before in (
-      search needs,
-      at-loop .loop .inv .1,
-      put-more _ _ (start .args .d .types) (at-loop .loop .j) _
-          (omega (arith, at-wide .wide .ensures .0, start .pre .0, at-loop .loop .inv .1)) (at-loop .loop .inv .2),
-    )
+add-types-2 : tie.Need-add-types-2
+add-types-2 c = search needs
 
-returns : tie.Need-returns Inv-loop μ-loop
-returns c =
-    let at-loop = c .before in
-    let at-wide = at-loop .before .before in
-    let start = at-wide .before in
-    let e : at-loop .loop .j ≡ start .args .d .arity = omega (arith, at-loop .loop .inv .0, at-wide .wide .ensures .0) in
-    at-loop .loop .inv .2 ∙ ap (λ (k : ℕ). sets (start .args .types .now) (start .args .at) (take k (start .args .d .types))) e
+element-write-types-3 : tie.Need-element-write-types-3
+element-write-types-3 c = search needs
+
+returns-4 : tie.Need-returns-4
+returns-4 c =
+    let start = c .before .before .before .before .before in
+    let a = start .args in
+    let e : a .d .arity ≡ 3 = omega (arith, start .pre .0) in
+    rw e (put-three (a .types .now) (a .at) (a .d .types) (start .pre .1))
+
+array-read-types-4 : tie.Need-array-read-types-4
+array-read-types-4 c = search needs
+
+add-types-3 : tie.Need-add-types-3
+add-types-3 c = search needs
+
+element-write-types-4 : tie.Need-element-write-types-4
+element-write-types-4 c = search needs
+
+returns-5 : tie.Need-returns-5
+returns-5 c =
+    let start = c .before .before .before .before .before in
+    let a = start .args in
+    let e : a .d .arity ≡ 4 = omega (arith, start .pre .0) in
+    rw e (put-four (a .types .now) (a .at) (a .d .types) (start .pre .1))
 
 pub put-types-spec : {M : Type 1} → statement M
 put-types-spec =
     tie.close
     (tie.spec
-    Inv-loop
-    μ-loop
-    wide-requires
-    loop-holds
+    returns
     array-read-types
-    add-types
     element-write-types
-    add-j
-    loop-less
-    loop-again
-    returns)
+    returns-2
+    array-read-types-2
+    add-types
+    element-write-types-2
+    returns-3
+    array-read-types-3
+    add-types-2
+    element-write-types-3
+    returns-4
+    array-read-types-4
+    add-types-3
+    element-write-types-4
+    returns-5)

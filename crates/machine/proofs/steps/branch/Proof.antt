@@ -101,6 +101,7 @@ copy-requires c κs =
         p .pre .0 .lent .cell-room,
       ),
       omega (arith, at-if2 .if2 .left, p .pre .0 .lent .place-room),
+      e .1,
     )
 
 add-t14 : tie.Need-add-t14
