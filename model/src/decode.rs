@@ -1,16 +1,21 @@
-//! The records of a payload, decoded into a program of vectors and plain structs.
+//! The records of a payload, decoded into plain structs and one vector of instructions.
+
+use std::ops::Range;
 
 use crate::Refusal;
 
 /// The most arguments a constructor or function takes.
 pub const MOST_ARGUMENTS: usize = 4;
+/// The most alternatives of a function's bound.
+const MOST_ALTERNATIVES: usize = 4;
 
 /// Result and argument types of a constructor or function.
 #[derive(Clone, Copy, Debug)]
 pub struct Signature {
     pub result: u8,
     pub arity: u8,
-    types: [u8; MOST_ARGUMENTS],
+    /// The arguments' types, one byte each, the last one lowest: as they stand on top of a stack.
+    pub types: u32,
 }
 
 impl Signature {
@@ -19,9 +24,9 @@ impl Signature {
         usize::from(self.arity)
     }
 
-    /// The types of the arguments, the first one first.
-    pub fn arguments(&self) -> &[u8] {
-        &self.types[..self.arity()]
+    /// The types of the arguments and zeros, the last argument first.
+    pub fn reversed_types(&self) -> [u8; MOST_ARGUMENTS] {
+        self.types.to_le_bytes()
     }
 }
 
@@ -33,7 +38,7 @@ pub struct Constructor {
 }
 
 /// One alternative of a function's size bound.
-#[derive(Clone, Copy, Debug)]
+#[derive(Clone, Copy, Debug, Default)]
 pub struct Alternative {
     pub coefficients: [u8; MOST_ARGUMENTS],
     pub constant: u16,
@@ -50,12 +55,20 @@ pub enum Instruction {
     Stop,
 }
 
-/// A function: its signature, its size bound and its code.
+/// A function: its signature, its size bound, and where its code stands among all instructions.
 #[derive(Clone, Debug)]
 pub struct Function {
     pub signature: Signature,
-    pub bound: Vec<Alternative>,
-    pub code: Vec<Instruction>,
+    alternatives: [Alternative; MOST_ALTERNATIVES],
+    count: u8,
+    pub code: Range<usize>,
+}
+
+impl Function {
+    /// The alternatives of the size bound.
+    pub fn bound(&self) -> &[Alternative] {
+        &self.alternatives[..usize::from(self.count)]
+    }
 }
 
 /// A decoded program.
@@ -64,6 +77,15 @@ pub struct Program {
     pub types: u8,
     pub constructors: Vec<Constructor>,
     pub functions: Vec<Function>,
+    /// The code of all functions, one after the other.
+    pub code: Vec<Instruction>,
+}
+
+impl Program {
+    /// The code of one function.
+    pub fn code_of(&self, function: &Function) -> &[Instruction] {
+        &self.code[function.code.clone()]
+    }
 }
 
 /// The payload and how far it has been read.
@@ -83,6 +105,19 @@ impl<'a> Reader<'a> {
         let value = parsed.ok_or(Refusal::new(4, self.at, 0))?;
         self.at += N;
         Ok(value)
+    }
+
+    /// Reads so many instructions and adds them to the code.
+    fn instructions(&mut self, count: usize, code: &mut Vec<Instruction>) -> Result<(), Refusal> {
+        let records = self.payload[self.at..].as_chunks().0;
+        for record in records.iter().take(count) {
+            code.push(parse_instruction(record).ok_or(Refusal::new(4, self.at, 0))?);
+            self.at += record.len();
+        }
+        if records.len() < count {
+            return Err(Refusal::new(4, self.at, 0));
+        }
+        Ok(())
     }
 
     /// Refuses bytes that are left over.
@@ -115,15 +150,18 @@ fn parse_header(&[edition, types, constructors, functions]: &[u8; 4]) -> Option<
 }
 
 /// Whether the fields past the arity are zero.
-fn zero_past(fields: &[u8], arity: u8) -> bool {
-    fields[usize::from(arity)..].iter().all(|&field| field == 0)
+fn zero_past(fields: [u8; MOST_ARGUMENTS], arity: u8) -> bool {
+    u64::from(u32::from_le_bytes(fields)) >> (8 * arity) == 0
 }
 
-fn parse_signature(fields: &[u8; 6]) -> Option<Signature> {
-    let &[result, arity, a, b, c, d] = fields;
+fn parse_signature(&[result, arity, a, b, c, d]: &[u8; 6]) -> Option<Signature> {
     let types = [a, b, c, d];
-    let right = usize::from(arity) <= MOST_ARGUMENTS && zero_past(&types, arity);
-    right.then_some(Signature {
+    if usize::from(arity) > MOST_ARGUMENTS || !zero_past(types, arity) {
+        return None;
+    }
+    let unused = 8 * (MOST_ARGUMENTS as u8 - arity);
+    let types = (u64::from(u32::from_be_bytes(types)) >> unused) as u32;
+    Some(Signature {
         result,
         arity,
         types,
@@ -158,7 +196,7 @@ fn parse_head(record: &[u8; 10]) -> Option<Head> {
 fn parse_alternative(record: &[u8; 6], arity: u8) -> Option<Alternative> {
     let &[a, b, c, d, low, high] = record;
     let coefficients = [a, b, c, d];
-    let right = coefficients.iter().all(|&k| k <= 15) && zero_past(&coefficients, arity);
+    let right = coefficients.iter().all(|&k| k <= 15) && zero_past(coefficients, arity);
     right.then_some(Alternative {
         coefficients,
         constant: u16::from_le_bytes([low, high]),
@@ -181,20 +219,20 @@ fn parse_instruction(&[operation, a, low, high]: &[u8; 4]) -> Option<Instruction
     }
 }
 
-fn read_function(reader: &mut Reader) -> Result<Function, Refusal> {
+fn read_function(reader: &mut Reader, code: &mut Vec<Instruction>) -> Result<Function, Refusal> {
     let head = reader.record(parse_head)?;
-    let arity = head.signature.arity;
-    let bound = (0..head.alternatives)
-        .map(|_| reader.record(|record| parse_alternative(record, arity)))
-        .collect::<Result<_, _>>()?;
-    let mut code = Vec::with_capacity(usize::from(head.instructions));
-    for _ in 0..head.instructions {
-        code.push(reader.record(parse_instruction)?);
+    let signature = head.signature;
+    let mut alternatives = [Alternative::default(); MOST_ALTERNATIVES];
+    for alternative in &mut alternatives[..usize::from(head.alternatives)] {
+        *alternative = reader.record(|record| parse_alternative(record, signature.arity))?;
     }
+    let start = code.len();
+    reader.instructions(usize::from(head.instructions), code)?;
     Ok(Function {
-        signature: head.signature,
-        bound,
-        code,
+        signature,
+        alternatives,
+        count: head.alternatives,
+        code: start..code.len(),
     })
 }
 
@@ -202,16 +240,20 @@ fn read_function(reader: &mut Reader) -> Result<Function, Refusal> {
 pub fn decode(payload: &[u8]) -> Result<Program, Refusal> {
     let mut reader = Reader { payload, at: 0 };
     let header = reader.record(parse_header)?;
-    let constructors = (0..header.constructors)
-        .map(|_| reader.record(parse_constructor))
-        .collect::<Result<_, _>>()?;
-    let functions = (0..header.functions)
-        .map(|_| read_function(&mut reader))
-        .collect::<Result<_, _>>()?;
+    let mut constructors = Vec::with_capacity(usize::from(header.constructors));
+    for _ in 0..header.constructors {
+        constructors.push(reader.record(parse_constructor)?);
+    }
+    let mut functions = Vec::with_capacity(usize::from(header.functions));
+    let mut code = Vec::with_capacity(payload.len() / 4);
+    for _ in 0..header.functions {
+        functions.push(read_function(&mut reader, &mut code)?);
+    }
     reader.end()?;
     Ok(Program {
         types: header.types,
         constructors,
         functions,
+        code,
     })
 }

@@ -1,6 +1,6 @@
 //! A plain model of the verifier and interpreter for small untrusted bytecode programs.
 //!
-//! A file is verified and unpacked ([`container`]), its records are decoded into vectors ([`decode`]),
+//! A file is verified and unpacked ([`container`]), its records are decoded once ([`decode`]),
 //! the decoded program is checked ([`check`]), and an accepted program is run on lent tables
 //! ([`machine`]).
 
