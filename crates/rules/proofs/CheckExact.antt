@@ -21,7 +21,10 @@ use Rattle.rules.specs.Shapes.{sizesOf, sizesRight}
 use Rattle.rules.specs.Check.{checked}
 use Rattle.rules.specs.FlowRules.{AllFlow, FlowFails}
 use Rattle.rules.specs.Refusals.{EachFunction, HasTypes, HasShapes, TypesFail, CoverFails, ManyFails, UpTo4, UpTo5, UpTo6, UpTo7}
-use Rattle.rules.specs.Refusals.{UpTo8, Obeys, Fails, blocks, records, declarations, bounds, flow, types, many, cover, CheckExact}
+use Rattle.rules.specs.Refusals.{UpTo8, Obeys, Fails, records, declarations, bounds, flow, types, many, cover, CheckExact}
+use Rattle.rules.specs.Refusals as fails
+use Rattle.rules.specs.FileRules.{BlocksRight, BlocksFail, whole, sum, fields, RecordsFail, wrong}
+use Rattle.rules.specs.DeclarationRules.{DeclarationsFail, constructor-wrong, signature-wrong, BoundsFail, missing}
 use Rattle.rules.specs.Refusals.{RefusalExact}
 use Rattle.rules.proofs.ListLaws.{all-at}
 use Rattle.rules.proofs.TriedLaws.{answers-exactly}
@@ -130,10 +133,12 @@ module _ (file : List ℕ) where
 
   refuses : (r : Refusal) → Fails file r → checked file ≡ refused r
   unfolding checked decode
-  refuses r (blocks h) = rw (blocks-exact file .1 r .1 h)
-  refuses r (records b h) = rw (blocks-exact file .0 .1 b, records-exact (payload file) .1 r .1 h)
-  refuses r (declarations {s = s} u h) = past4 s u ∙ rw (declarations-exact s .1 r .1 h)
-  refuses r (bounds {s = s} u h) = past5 s u ∙ rw (bounds-exact s .1 r .1 h)
+  refuses r (fails.whole h) = rw (blocks-exact file .1 (refusal 1 0 0) .1 h)
+  refuses r (fails.sum {k} h) = rw (blocks-exact file .1 (refusal 2 k 0) .1 h)
+  refuses r (fails.fields {k} h) = rw (blocks-exact file .1 (refusal 3 k 0) .1 h)
+  refuses r (records {at} b h) = rw (blocks-exact file .0 .1 b, records-exact (payload file) .1 (refusal 4 at 0) .1 h)
+  refuses r (declarations {s} {p} {q} u h) = past4 s u ∙ rw (declarations-exact s .1 (refusal 5 p q) .1 h)
+  refuses r (bounds {s} {g} {k} u h) = past5 s u ∙ rw (bounds-exact s .1 (refusal 6 g k) .1 h)
   refuses r (flow {s} {n} {i} {f} u at before h) = past6 s u ∙ rw (flow-decides s .1 (refusal 7 n i) .1 (n, f, at, (i, refl, h), before))
   refuses r (types {s} {n} {i} {f} u at before h) = past7 s u ∙ rw (types-decides u .1 (refusal 8 n i) .1 (n, f, at, (i, refl, h), before))
   refuses r (many {s} {n} {i} {f} u at before h) =
@@ -146,6 +151,22 @@ module _ (file : List ℕ) where
 module _ (file : List ℕ) where
   abbrev Answered : Type 0
   Answered = ((r : Refusal) × Fails file r) ⊎ ((s : Program) × Obeys file s)
+
+  -- which number it is that fails
+  blocks-fail : {r : Refusal} → BlocksFail file r → Fails file r
+  blocks-fail (whole h) = fails.whole (whole h)
+  blocks-fail (sum w l right h) = fails.sum (sum w l right h)
+  blocks-fail (fields w l right summed h) = fails.fields (fields w l right summed h)
+
+  records-fail : {r : Refusal} → BlocksRight file → RecordsFail (payload file) r → Fails file r
+  records-fail b (wrong reached h) = records b (wrong reached h)
+
+  declarations-fail : (s : Program) {r : Refusal} → UpTo4 file s → DeclarationsFail s r → Fails file r
+  declarations-fail s u (constructor-wrong at before h) = declarations u (constructor-wrong at before h)
+  declarations-fail s u (signature-wrong right at before h) = declarations u (signature-wrong right at before h)
+
+  bounds-fail : (s : Program) {r : Refusal} → UpTo5 file s → BoundsFail s r → Fails file r
+  bounds-fail s u (missing at before l h earlier not) = bounds u (missing at before l h earlier not)
 
   module _ (s : Program) where
     after-8 : UpTo8 file s → (t : Check) → sizesRight s ≡ t → Answered
@@ -166,22 +187,22 @@ module _ (file : List ℕ) where
 
     after-5 : UpTo5 file s → (t : Check) → boundsRight s ≡ t → Answered
     after-5 u (found tt) e = after-6 (record { declared = u; bounds = bounds-exact s .0 .0 e }) (flowRight s) refl
-    after-5 u (refused r) e = inl (r, bounds u (bounds-exact s .1 r .0 e))
+    after-5 u (refused r) e = inl (r, bounds-fail s u (bounds-exact s .1 r .0 e))
 
     after-4 : UpTo4 file s → (t : Check) → declarationsRight s ≡ t → Answered
     after-4 u (found tt) e = after-5 (record { read = u; declarations = declarations-exact s .0 .0 e }) (boundsRight s) refl
-    after-4 u (refused r) e = inl (r, declarations u (declarations-exact s .1 r .0 e))
+    after-4 u (refused r) e = inl (r, declarations-fail s u (declarations-exact s .1 r .0 e))
 
   after-3 : verify file ≡ passed → (t : Check) → recordsRight (payload file) ≡ t → Answered
   after-3 b (found tt) e =
       let s = programOf (payload file) in
       after-4 s (record { blocks = blocks-exact file .0 .0 b; records = records-exact (payload file) .0 .0 e; program = refl })
       (declarationsRight s) refl
-  after-3 b (refused r) e = inl (r, records (blocks-exact file .0 .0 b) (records-exact (payload file) .1 r .0 e))
+  after-3 b (refused r) e = inl (r, records-fail (blocks-exact file .0 .0 b) (records-exact (payload file) .1 r .0 e))
 
   answered : (t : Check) → verify file ≡ t → Answered
   answered (found tt) e = after-3 e (recordsRight (payload file)) refl
-  answered (refused r) e = inl (r, blocks (blocks-exact file .1 r .0 e))
+  answered (refused r) e = inl (r, blocks-fail (blocks-exact file .1 r .0 e))
 
 pub refusal-exact : RefusalExact
 refusal-exact file = answers-exactly (checked file) (Fails file) (Obeys file) (refuses file) (accepts file) (answered file

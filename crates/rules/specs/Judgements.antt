@@ -1,5 +1,5 @@
 -- 001's rules as it prints them: relations on whole tables, beside the walks that compute the tables.
--- `check-exact` of proofs/Judgements.antt shows that the check accepts just where these relations and document 01's limits hold.
+-- `check-exact` of proofs/CheckExact.antt shows that the check accepts just where these relations and document 01's limits hold.
 use mathlib.Core.Path.{_≡_}
 use mathlib.Core.List.{List, _++_, map}
 use mathlib.Core.Option.{Option, some}

@@ -104,13 +104,14 @@ pub record Obeys (file : List ℕ) (s : Program) : Type 0 where
   pub sizes : EachFunction s (HasShapes s)
 
 -- "1; block by block 2 then 3; then 4 to 8, each over the whole sheet in file order; then one walk .. for 10 and 9": what comes earlier in
--- this order holds, and the rule fails at this place. Of 1, 2 and 3, and of 5's two places, the parts of `BlocksFail` and of
--- `DeclarationsFail` say each its own
+-- this order holds, and the rule fails at this place. One constructor a number
 pub data Fails (file : List ℕ) : Refusal → Type 0 where
-  blocks : {r : Refusal} → BlocksFail file r → Fails file r
-  records : {r : Refusal} → BlocksRight file → RecordsFail (payload file) r → Fails file r
-  declarations : {r : Refusal} {s : Program} → UpTo4 file s → DeclarationsFail s r → Fails file r
-  bounds : {r : Refusal} {s : Program} → UpTo5 file s → BoundsFail s r → Fails file r
+  whole : BlocksFail file (refusal 1 0 0) → Fails file (refusal 1 0 0)
+  sum : {k : ℕ} → BlocksFail file (refusal 2 k 0) → Fails file (refusal 2 k 0)
+  fields : {k : ℕ} → BlocksFail file (refusal 3 k 0) → Fails file (refusal 3 k 0)
+  records : {at : ℕ} → BlocksRight file → RecordsFail (payload file) (refusal 4 at 0) → Fails file (refusal 4 at 0)
+  declarations : {s : Program} {p q : ℕ} → UpTo4 file s → DeclarationsFail s (refusal 5 p q) → Fails file (refusal 5 p q)
+  bounds : {s : Program} {g k : ℕ} → UpTo5 file s → BoundsFail s (refusal 6 g k) → Fails file (refusal 6 g k)
   flow : {s : Program} {n i : ℕ} {f : Function} → UpTo6 file s → function s n ≡ some f → Earlier s (λ m g. AllFlow (g .code)) n
       → FlowFails (f .code) i → Fails file (refusal 7 n i)
   types : {s : Program} {n i : ℕ} {f : Function} → UpTo7 file s → function s n ≡ some f → Earlier s (HasTypes s) n → TypesFail s f i
