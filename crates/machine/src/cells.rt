@@ -6,7 +6,8 @@ ghost use lib.ListN.{length};
 ghost use Rattle.rules.specs.Memory.{tableAfter};
 ghost use Rattle.machine.specs.Steps.{Copied, Cleared, CellPut};
 
-// Copies at most four numbers of a slice to a place of another: one after the other, since a loop is dearer for so few.
+// For the crates above: copies at most four numbers of a slice to a place of another. One after the other, since a loop is dearer for so
+// few.
 pub fn copy(from: &[u16], at: usize, out: &mut [u16], to: usize, n: usize)
     requires { ⌜ (at + n ≤ length (now from)) × (to + n ≤ length (now out)) × (n ≤ 4) ⌝ }
     ensures { λ _. ⌜ Copied (now (from .entry)) at to n (now (out .entry)) (now (out .exit)) ⌝ }

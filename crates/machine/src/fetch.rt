@@ -26,7 +26,7 @@ pub fn constructor_arity(file: &[u8], index: &[u32; 160], c: usize) -> usize
     wide32(index[c])
 }
 
-// The arity of a function.
+// For the crates above: the arity of a function.
 pub fn function_arity(file: &[u8], index: &[u32; 160], f: usize) -> usize
     requires { ⌜ Indexed (now file) (now index) ⌝ }
     requires { ⌜ f < length (programIn (now file) .functions) ⌝ }

@@ -62,7 +62,7 @@ fn index_functions(
     index
 }
 
-// For the run: the index of a parsed file.
+// For the crates above: the index of a parsed file.
 pub fn index_of(file: &[u8], header: Header, heads: &[usize; 32]) -> [u32; 160]
     requires { ⌜ LaidOut (now file) header (now heads) ⌝ }
     ensures { λ r. ⌜ Indexed (now (file .entry)) r ⌝ }

@@ -71,7 +71,7 @@ fn read_byte(file: &[u8], types: &mut [u8; 256], at: usize, c: usize) -> Read
     Read::At(next)
 }
 
-// 12: the argument bytes, one after the other, for the function whose head stands at an offset.
+// For the crates above: 12, the argument bytes, one after the other, for the function whose head stands at an offset.
 pub fn check_arguments(file: &[u8], head: usize, bytes: &[u8]) -> Checked
     requires { ⌜ Parsed (now file) ⌝ }
     requires { ⌜ HeadThere (payload (now file)) head ⌝ }

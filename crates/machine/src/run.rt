@@ -108,7 +108,7 @@ pub fn advance(
     }
 }
 
-// The run from a state on.
+// For the crates above: the run from a state on.
 pub fn drive(
     file: &[u8],
     index: &[u32; 160],
@@ -139,7 +139,7 @@ pub fn drive(
     }
 }
 
-// After the run: the usable entries of all tables zero, any beyond kept.
+// For the crates above: after the run, the usable entries of all tables zero, any beyond kept.
 pub fn wipe_tables(cells: &mut [u16], stack: &mut [u16], frames: &mut [u16], m: Limits)
     requires { ⌜ (5 * m .cells ≤ length (now cells)) × (m .stack ≤ length (now stack)) × (3 * m .frames ≤ length (now frames))
         × (m .cells ≤ 65535) × (m .frames ≤ 65535) ⌝ }

@@ -54,6 +54,7 @@ pub fn split(line: &[u8]) -> Words {
     with_word(words, from, i)
 }
 
+// For the crates above: where word k stands.
 pub fn word(words: Words, k: usize) -> Span
     requires { ⌜ k < 10 ⌝ }
 {
@@ -114,7 +115,7 @@ fn decimal(word: &[u8]) -> Number {
     Number::Of(value as u32)
 }
 
-// The number that word k of a line says.
+// For the crates above: the number that word k of a line says.
 pub fn number_at(line: &[u8], words: Words, k: usize) -> Number
     requires { ⌜ k < 10 ⌝ }
 {
