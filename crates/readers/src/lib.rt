@@ -65,11 +65,46 @@ pub fn header(file: &[u8]) -> Header
     }
 }
 
+// A byte of the first block, which is found without a division.
+fn early(file: &[u8], k: usize) -> u8
+    requires { ⌜ Verified (now file) × (k < length (payload (now file))) × (k < 504) ⌝ }
+    ensures { λ r. ⌜ r ≡ byteAt (payload (now (file .entry))) k ⌝ }
+{
+    file[k + 4]
+}
+
+fn early_four(file: &[u8], at: usize) -> [u8; 4]
+    requires { ⌜ Verified (now file) × (at + 4 ≤ length (payload (now file))) × (at + 4 ≤ 504) ⌝ }
+    ensures { λ r. ⌜ r ≡ fourAt (payload (now (file .entry))) at ⌝ }
+{
+    [
+        early(file, at),
+        early(file, at + 1),
+        early(file, at + 2),
+        early(file, at + 3),
+    ]
+}
+
+// A declaration in the first block, where most constructors stand. An argument check reads one for each byte.
+fn early_declaration(file: &[u8], at: usize) -> Declaration
+    requires { ⌜ Verified (now file) × (at + 6 ≤ length (payload (now file))) × (at + 6 ≤ 504) ⌝ }
+    ensures { λ r. ⌜ r ≡ declarationAt (payload (now (file .entry))) at ⌝ }
+{
+    Declaration {
+        result: early(file, at),
+        arity: early(file, at + 1),
+        types: early_four(file, at + 2),
+    }
+}
+
 // For the crates above: what a constructor and a function head both begin with.
 pub fn declaration(file: &[u8], at: usize) -> Declaration
     requires { ⌜ Verified (now file) × (at + 6 ≤ length (payload (now file))) ⌝ }
     ensures { λ r. ⌜ r ≡ declarationAt (payload (now (file .entry))) at ⌝ }
 {
+    if at + 6 <= 504 {
+        return early_declaration(file, at);
+    }
     Declaration {
         result: payload_byte(file, at),
         arity: payload_byte(file, at + 1),
