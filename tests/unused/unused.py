@@ -5,10 +5,7 @@ LONGEST = 140
 # What is proved for its own sake: a reader looks for it, and no other proof cites it.
 THEOREMS = {'cases-hold', 'tally-promise', 'check-exact', 'round-trip', 'exact', 'run-promise', 'number-fact', 'result-fact',
             'cover-fact', 'branch-fact', 'argument-fact', 'read-back-fact', 'room-fact', 'types-fact', 'size-fact', 'choice-fact',
-            'progress-fact', 'argument-exact', 'packing-exact', 'unpacking-exact', 'says-operation', 'refusal-exact', 'check-exactly',
-            'heap-fact'}
-# Its functions still take what only their contracts read.
-UNREAD_ALLOWED = {'machine'}
+            'progress-fact', 'argument-exact', 'packing-exact', 'unpacking-exact', 'says-operation', 'refusal-exact', 'check-exactly'}
 
 TOKEN = re.compile(r'[^\s(){}.;,@"«»]+')
 SIGNATURE = re.compile(r'((?:(?:unfoldable|abbrev|pub) )*)(?:data |record )?([^\s(){}.;,]+)(?: [({].*)? :(?: |$)', re.M)
@@ -107,7 +104,7 @@ def closing(text, start):
 
 def unread_parameters(texts):
     for path, text in texts.items():
-        if path.endswith('.rt') and path.split('/')[1] not in UNREAD_ALLOWED:
+        if path.endswith('.rt'):
             for name, parameters, body in functions(text):
                 for parameter in re.findall(r'(?:^|,)\s*(?:mut )?(\w+)\s*:', parameters):
                     if not re.search(r'\b%s\b' % parameter, body):

@@ -16,19 +16,23 @@ use Rattle.rules.specs.Program.{Function, Program, function}
 use Rattle.rules.specs.Machine.{Value, State, start, step, resultOf}
 use Rattle.rules.specs.Prefix.{argumentsRight, values}
 use Rattle.rules.specs.Check.{checked}
-use Rattle.rules.specs.Run.{Lent, Tables, usable, refusedWith, Outcome, answer, heights, fits, endOf, finishedWith, loaded, continued}
-use Rattle.rules.specs.Run.{delivered, run}
+use Rattle.rules.specs.Heap.{heapStart}
+use Rattle.rules.specs.HeapRun.{continuedOn, startedOn}
+use Rattle.rules.specs.Run.{Lent, Tables, usable, refusedWith, Outcome, answer, heights, fits, endOf, finishedWith, loaded}
+use Rattle.rules.specs.Run.{started, delivered, run}
 use Rattle.rules.specs.Memory.{resultInto, begun, tableAfter}
 use Rattle.rules.specs.Answers.{refusalOf}
 use Rattle.rules.specs.Promise.{Lives, given-up, has-result, goes-on}
 use Rattle.rules.proofs.ListLaws.{none-some, all2-length}
 use Rattle.rules.proofs.PrefixLaws.{arguments-typed}
-use Rattle.rules.proofs.RunLaws.{started-refused, started-loaded, deliver-refused, run-refused, run-checked}
+use Rattle.rules.proofs.HeapRun.{heap-fact}
+use Rattle.rules.proofs.RunLaws.{started-refused, deliver-refused, run-refused, run-checked}
 use Rattle.rules.proofs.MemoryLaws.{begun-not-checked, begun-not-loaded, begun-loaded}
 use Rattle.rules.proofs.Promise.{tally-promise}
 use Rattle.rules.proofs.ResultLaws.{result-fact}
-use Rattle.machine.specs.Frames.{SoundFrom}
-use Rattle.interpreter.specs.Runs.{lentOf, Runs, Delivers}
+use Rattle.steps.specs.Stands.{SoundFrom}
+use Rattle.interpreter.specs.Parts.{Delivers}
+use Rattle.interpreter.specs.Runs.{lentOf, Runs}
 use Rattle.interpreter.proofs.FinishLaws.{said}
 
 -- what every slice of bytes says
@@ -64,6 +68,12 @@ module _ (t : Tables) (entry : ℕ) (vs : List Value) (n : ℕ) where
 
 ---- The whole run
 
+-- from a start that fits the tables, the run over cells
+started-on : (s : Program) (m : Tables) (budget entry : ℕ) (bytes : List ℕ) {st : State} → loaded s m entry bytes ≡ found st
+    → started s m budget entry bytes ≡ continuedOn s m budget 0 (heapStart s entry bytes)
+unfolding startedOn
+started-on s m budget entry bytes e = sym (heap-fact s m budget entry bytes) ∙ rw (e, startedOn)
+
 module _ (file : List ℕ) (entry : ℕ) (arguments : List ℕ) (budget : ℕ) (cells stack frames out : List ℕ) where
   abbrev lent : Lent
   lent = lentOf cells stack frames out
@@ -89,14 +99,14 @@ module _ (file : List ℕ) (entry : ℕ) (arguments : List ℕ) (budget : ℕ) (
         (begun-not-loaded file entry arguments lent e w)
 
     pub has-begun : {st : State} {a : Outcome} {cells′ stack′ frames′ out′ : List ℕ} {r : Answer}
-        → loaded s (usable lent) entry arguments ≡ found st → continued s (usable lent) budget 0 st (length arguments) ≡ a
+        → loaded s (usable lent) entry arguments ≡ found st → continuedOn s (usable lent) budget 0 (heapStart s entry arguments) ≡ a
         → Delivers a out out′ r
         → cells′ ≡ tableAfter true 0 (5 * usable lent .cells) cells → stack′ ≡ tableAfter true 0 (usable lent .stack) stack
         → frames′ ≡ tableAfter true 0 (3 * usable lent .frames) frames
         → Runs file entry arguments budget cells stack frames out cells′ stack′ frames′ out′ r
     has-begun w c d ec es ef =
         let whole = run-checked file entry arguments budget lent e
-        ∙ ap (delivered (length out)) (started-loaded s (usable lent) budget entry arguments w ∙ c) in
+        ∙ ap (delivered (length out)) (started-on s (usable lent) budget entry arguments w ∙ c) in
         let b = begun-loaded file entry arguments lent e w in
         record {
           says = d .says ∙ rw whole;

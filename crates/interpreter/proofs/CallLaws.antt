@@ -25,12 +25,13 @@ use Rattle.rules.proofs.RunLaws.{load-no-entry, load-bad-arguments, load-no-roo
 use Rattle.rules.proofs.ListLaws.{at-less}
 use Rattle.rules.proofs.CheckLaws.{accepted-checked}
 use Rattle.program.proofs.LayoutLaws.{functions-count, head-placed, function-placed}
-use Rattle.machine.specs.declared.state.Limits.{Limits}
-use Rattle.machine.specs.Indexed.{Indexed}
-use Rattle.machine.specs.Reading.{HeadThere}
-use Rattle.machine.specs.Stands.{inputs, inputsOf}
-use Rattle.machine.proofs.IndexLaws.{function-is}
-use Rattle.interpreter.specs.Runs.{lentOf, Runs, Callable, Beginning}
+use Rattle.store.specs.declared.limits.Limits.{Limits}
+use Rattle.fetch.specs.Indexed.{Indexed, functionArity}
+use Rattle.fetch.proofs.ArityLaws.{inputs-is}
+use Rattle.fetch.proofs.IndexLaws.{function-is, function-read}
+use Rattle.arguments.specs.Reading.{HeadThere}
+use Rattle.interpreter.specs.Parts.{Callable, Beginning}
+use Rattle.interpreter.specs.Runs.{lentOf, Runs}
 use Rattle.interpreter.proofs.FinishLaws.{said}
 use Rattle.interpreter.proofs.BeginLaws.{values-length, no-frame, no-slots, no-cells, not-loaded}
 
@@ -47,9 +48,16 @@ module _ {file index : List ℕ} {entry : ℕ} {arguments : List ℕ} (k : Calla
   pub known-entry : entry < length (programIn file .functions)
   known-entry = at-less (programIn file .functions) entry (k .known)
 
-  pub inputs-are : {arity : ℕ} → arity ≡ inputs (programIn file) entry → arity ≡ length (k .f .parameters)
-  unfolding inputsOf
-  inputs-are e = e ∙ ap inputsOf (k .known)
+  pub few-functions : entry < 32
+  few-functions = function-read file index (k .indexed) entry known-entry .0
+
+  pub inputs-are : {n : ℕ} → n ≡ functionArity index entry → n ≡ length (k .f .parameters)
+  inputs-are e = e ∙ function-read file index (k .indexed) entry known-entry .1 ∙ inputs-is (programIn file) entry (k .known)
+
+  -- at most four arguments
+  pub few-inputs : length (k .f .parameters) ≤ 4
+  few-inputs =
+      omega (arith, inputs-is (programIn file) entry (k .known), function-read file index (k .indexed) entry known-entry .2)
 
   vs-length : length (values (programIn file) arguments) ≡ length (k .f .parameters)
   vs-length = values-length (programIn file) (k .f) arguments (k .right)
@@ -79,10 +87,10 @@ module _ {file index : List ℕ} {entry : ℕ} {arguments : List ℕ} (k : Calla
           (no-cells (usable (lentOf cells stack frames out)) entry (values (programIn file) arguments) (length arguments) frame
           (omega (arith, vs-length)) h))
 
-    pub beginning : {m : Limits} {arity : ℕ} → budget < 4294967296 → (m .cells ≡ min 65535 (length cells / 5))
-        × (m .stack ≡ min 65535 (length stack)) × (m .frames ≡ min 65535 (length frames / 3)) → arity ≡ inputs (programIn file) entry
-        → 0 < m .frames → arity ≤ m .stack → length arguments ≤ m .cells
-        → Beginning file index m entry arity arguments budget cells stack frames out
+    pub beginning : {m : Limits} {n : ℕ} → budget < 4294967296 → (m .cells ≡ min 65535 (length cells / 5))
+        × (m .stack ≡ min 65535 (length stack)) × (m .frames ≡ min 65535 (length frames / 3)) → n ≡ functionArity index entry
+        → 0 < m .frames → n ≤ m .stack → length arguments ≤ m .cells
+        → Beginning file index m entry n arguments budget cells stack frames out
     beginning few (c, s, f) e frame slots room = record {
       callable = k;
       few = few;

@@ -1,72 +1,54 @@
--- The arguments loaded: the pending numbers that are left hold the values, one for each parameter, and go to the stack's bottom.
-use mathlib.Core.Path.{_≡_, refl, sym, ap, _∙_, subst}
+-- The arguments loaded: the pending references that are left are those to the values, one for each parameter, and go to the stack's bottom.
+use mathlib.Core.Path.{_≡_, sym, ap, _∙_}
 use mathlib.Core.List.{List}
-use Prim.Native.Nat.{ℕ, _+_, _*_, _-_}
+use Prim.Native.Nat.{ℕ, _+_, _-_, _≤_}
 use native.Mathlib.Omega.{arith}
-use native.Mathlib.Nat.{zero-add}
-use lib.ListN.{length, getD}
+use lib.ListN.{length, length-map}
 use lib.Dec.{leb}
-use Rattle.rules.specs.Machine.{Value}
+use borrow.Author.Tests.{leb-true}
+use Rattle.rules.specs.Heap.{allocatedFor, valueOf}
+use Rattle.rules.specs.Prefix.{argumentsRight}
 use Rattle.rules.specs.Program.{Program}
-use Rattle.rules.specs.Prefix.{argumentsRight, values}
+use Rattle.rules.proofs.HeapRun.{allocated-all}
 use Rattle.rules.proofs.TriedLaws.{after-required}
-use Rattle.machine.specs.declared.state.Limits.{Limits}
-use Rattle.machine.specs.Arguments.{ArgumentsRead, PendingValues}
-use Rattle.machine.specs.Stands.{entries, valueOf}
-use Rattle.machine.specs.Steps.{Copied, KeptOutside}
-use Rattle.machine.proofs.EntryLaws.{length-entries, entries-same}
-use Rattle.interpreter.specs.Runs.{Loading, Loaded}
+use Rattle.store.specs.Cells.{refs, RefsPut}
+use Rattle.store.proofs.RefLaws.{length-refs, put-kept}
+use Rattle.arguments.specs.Loading as arguments
+use Rattle.interpreter.specs.Parts.{Loading, Loaded}
 use Rattle.interpreter.proofs.BeginLaws.{values-length}
 
-module _ {s : Program} {m : Limits} {arguments cells stack : List ℕ} {entry arity : ℕ} (l : Loading s m arguments cells stack entry arity)
-  where
-    pub loading-arguments : ArgumentsRead s m arguments
-    unfolding argumentsRight
-    loading-arguments = record {
-      ranged = l .ranged;
-      pending = l .f .parameters;
-      right = after-required (leb (length arguments) 65535) _ _ (l .right) .1;
-      few = omega (arith, l .inputs, l .few);
-      room = l .room;
-    }
+module _ {s : Program} {index bytes cells stack : List ℕ} {n : ℕ} (l : Loading s index bytes cells stack n) where
+  pub loading-arguments : arguments.Loading s index bytes
+  unfolding argumentsRight
+  loading-arguments = record {
+    pending = l .f .parameters;
+    right = after-required (leb (length bytes) 65535) _ _ (l .right) .1;
+    few = omega (arith, l .inputs, l .few);
+    indexed = l .indexed;
+  }
 
-    module _ {cells′ numbers : List ℕ} {at : ℕ} (h : PendingValues s arguments 0 cells′ numbers at (length arguments)) where
-      pub pending-end : at + arity ≡ 256
-      pending-end =
-          let n = length-entries (valueOf s cells′) numbers at (256 - at) in
-          let v : length (entries (valueOf s cells′) numbers at (256 - at)) ≡ length (values s arguments) = ap length (h .stands) in
-          omega (arith, n, v, values-length s (l .f) arguments (l .right), l .inputs, h .low)
+  pub few-bytes : length bytes ≤ 65535
+  unfolding argumentsRight
+  few-bytes = leb-true (length bytes) 65535 (after-required (leb (length bytes) 65535) _ _ (l .right) .0)
 
-      pub loaded : {stack′ : List ℕ} → Copied numbers at 0 arity stack stack′ → KeptOutside 0 (5 * m .cells) cells cells′
-          → Loaded s m arguments entry arity cells stack cells′ stack′ (record {
-            top = record { function = entry; instruction = 1; base = 0; top = arity; used = length arguments };
-            depth = 0;
-            steps = 0;
-          })
-      loaded {stack′} c k =
-          let few : 256 - at ≡ arity = omega (arith, pending-end) in
-          let whole : arity - 0 ≡ arity = omega arith in
-          let same : entries (valueOf s cells′) stack′ 0 arity ≡ values s arguments =
-          entries-same (valueOf s cells′) (valueOf s cells′) stack′ numbers 0 at arity (λ j lt. ap (valueOf s cells′) (c .put j lt))
-          ∙ ap (entries (valueOf s cells′) numbers at) (sym few) ∙ h .stands in
-          record {
-            state = refl;
-            local = record {
-              made = h .made-cells;
-              old =
-                  λ j lt. omega (
-                    arith,
-                    subst (λ (x : ℕ). getD stack′ x 0
-                        ≡ getD numbers (at + j) 0) (zero-add j) (c .put j lt),
-                    h .old (at + j) (omega arith) (omega (arith, pending-end)),
-                  );
-              bottom = omega arith;
-              places = l .slots;
-              taken = l .room;
-            };
-            frame =
-                ap (λ (vs : List Value). record { function = entry; instruction = 1; stack = vs })
-                (ap (entries (valueOf s cells′) stack′ 0) whole ∙ same);
-            kept-cells = k;
-            kept-stack = record { len = c .len; low = λ i lt. absurd (omega arith); high = λ i le. c .high i (omega (arith, l .slots)) };
-          }
+  -- as many references as parameters
+  references : length (allocatedFor s bytes .1) ≡ n
+  references =
+      sym (length-map (allocatedFor s bytes .1) (valueOf (allocatedFor s bytes .0))) ∙ ap length (allocated-all s bytes .stand)
+      ∙ values-length s (l .f) bytes (l .right) ∙ sym (l .inputs)
+
+  module _ {cells′ numbers : List ℕ} {at : ℕ} (h : arguments.MadeFor s bytes cells cells′ numbers at) where
+    pub pending-end : at + n ≡ 256
+    pending-end = omega (arith, length-refs numbers at (256 - at), ap length (h .values), references, h .low)
+
+    pub loaded : {stack′ : List ℕ} → RefsPut 0 (refs numbers at n) stack stack′ → Loaded s bytes n cells stack cells′ stack′
+    loaded {stack′} p =
+        let few : 256 - at ≡ n = omega (arith, pending-end) in
+        let long = length-refs numbers at n in
+        record {
+          heap = h .heap;
+          values = rw long at (p .put) ∙ ap (refs numbers at) (sym few) ∙ h .values;
+          known = h .known;
+          kept-cells = h .kept;
+          kept-stack = put-kept 0 (refs numbers at n) stack stack′ p n (omega (arith, long));
+        }

@@ -1,9 +1,2 @@
-pub mod Indexed
-pub mod Indexing
-pub mod Stands
-pub mod Steps
-pub mod Loop
-pub mod Result
-pub mod Frames
-pub mod Arguments
-pub mod Reading
+pub mod Turns
+pub mod Runs

@@ -1,152 +1,89 @@
-// The run: the top frame until it pauses, then a call, a return or an end, and so on.
-use crate::cells::wipe;
-use crate::fetch::instruction;
+// The run: the top frame until it rests, then a call, a return or an end, and so on.
 use crate::frames::enter;
-use crate::frames::finish;
-use crate::frames::halted;
 use crate::frames::leave;
-use crate::state::Ended;
-use crate::state::Halt;
-use crate::state::Limits;
-use crate::state::MachineState;
-use crate::state::Pause;
-use crate::state::Transition;
-use crate::steps::straight;
-use rules::records::Instruction;
-ghost use mathlib.Core.Path.{_≡_};
-ghost use Prim.Native.Nat.{_*_, _≤_};
+use crate::frames::waiting;
+use fetch::fetch;
+use steps::CALLS;
+use steps::GOES;
+use steps::NO_STEPS;
+use steps::RESULT;
+use steps::RETURNS;
+use steps::Registers;
+use steps::paused;
+use steps::straight;
+use store::Limits;
+use store::frame_at;
+use store::put_frame;
+ghost use mathlib.Core.List.{List};
+ghost use Prim.Native.Nat.{ℕ, _+_, _≤_};
 ghost use lib.ListN.{length};
-ghost use Rattle.rules.specs.Records.{programIn};
-ghost use Rattle.machine.specs.Indexed.{Indexed};
-ghost use Rattle.machine.specs.Frames.{Standing, Budgeted, isReturn, Transitioned, EndsAs, Wiped};
+ghost use Rattle.rules.specs.Container.{payload};
+ghost use Rattle.rules.specs.Established.{Verified};
+ghost use Rattle.fetch.specs.Places.{offsetAt, Inside};
+ghost use Rattle.machine.specs.Turns.{Rested, Turned, Settles};
+ghost use Rattle.machine.specs.Runs.{Begun, Ends};
 
-// Whether an instruction is a return.
-fn returns(ins: Instruction) -> bool
-    ensures { λ r. ⌜ r ≡ isReturn ins ⌝ }
-{
-    match ins {
-        Instruction::Load(_) => false,
-        Instruction::Build(_) => false,
-        Instruction::Call(_) => false,
-        Instruction::Branch(_, _) => false,
-        Instruction::Return => true,
-        Instruction::Stop => false,
-    }
-}
-
-// No step is left: a return in the only frame is still the result.
-pub fn spent(
-    file: &[u8],
-    index: &[u32; 160],
-    cells: &[u16],
-    stack: &[u16],
-    frames: &[u16],
-    m: Limits,
-    v: MachineState,
-    budget: usize,
-) -> Transition
-    requires { ⌜ Standing (programIn (now file)) m (now cells) (now stack) (now frames) v ⌝ }
-    requires { ⌜ v .steps ≡ budget ⌝ }
-    requires { ⌜ Indexed (now file) (now index) ⌝ }
-    ensures { λ x. ⌜ Transitioned (programIn (now (file .entry))) m budget (now (cells .entry)) (now (stack .entry)) (now (frames .entry)) v
-        (now (cells .entry)) (now (stack .entry)) (now (frames .entry)) x ⌝ }
-{
-    let r = v.top;
-    let ins = instruction(file, index, r.function, r.instruction);
-    if v.depth == 0 {
-        if returns(ins) {
-            return finish(file, cells, stack, frames, m, v, budget);
-        }
-    }
-    halted(Halt::OutOfSteps, r, v.steps)
-}
-
-// A transition of the run: the top frame runs until it pauses; a call or a return then changes frames.
-pub fn advance(
-    file: &[u8],
-    index: &[u32; 160],
-    cells: &mut [u16],
+// A frame that rests at a call or a return gives way to another; any other end stays.
+fn turn(
+    index: &[u32; 128],
     stack: &mut [u16],
     frames: &mut [u16],
     m: Limits,
-    v: MachineState,
-    budget: usize,
-) -> Transition
-    requires { ⌜ Standing (programIn (now file)) m (now cells) (now stack) (now frames) v ⌝ }
-    requires { ⌜ Budgeted v budget ⌝ }
-    requires { ⌜ Indexed (now file) (now index) ⌝ }
-    ensures { λ x. ⌜ Transitioned (programIn (now (file .entry))) m budget (now (cells .entry)) (now (stack .entry)) (now (frames .entry)) v
-        (now (cells .exit)) (now (stack .exit)) (now (frames .exit)) x ⌝ }
+    r: Registers,
+) -> Registers
+    requires { ⌜ ((file cells : List ℕ) × Rested file (now index) m cells (now stack) (now frames) r) ⌝ }
+    ensures { λ t. ⌜ ((file cells : List ℕ) → Rested file (now (index .entry)) m cells (now (stack .entry)) (now (frames .entry)) r
+        → Turned file m cells (now (stack .entry)) (now (frames .entry)) r (now (stack .exit)) (now (frames .exit)) t) ⌝ }
 {
-    let p = straight(file, index, cells, stack, m, v.top, v.steps, budget);
-    let top = p.top;
-    let next = MachineState {
-        top,
-        depth: v.depth,
-        steps: p.steps,
-    };
-    let pause = p.pause;
-    match pause {
-        Pause::Called(g) => {
-            return enter(file, index, cells, stack, frames, m, next, g, budget);
-        }
-        Pause::Returned => {
-            return leave(file, index, cells, stack, frames, m, next, budget);
-        }
-        Pause::Stopped => {
-            return halted(Halt::Aborted, top, p.steps + 1);
-        }
-        Pause::Spent => {
-            return spent(file, index, cells, stack, frames, m, next, budget);
-        }
-        Pause::NoStack => {
-            return halted(Halt::OutOfStack, top, p.steps);
-        }
-        Pause::NoCells => {
-            return halted(Halt::OutOfCells, top, p.steps);
-        }
+    if r.why == CALLS {
+        put_frame(frames, r.depth, waiting(r));
+        return enter(index, stack, m, r);
     }
+    if r.why != RETURNS {
+        return r;
+    }
+    if r.depth == 0 {
+        return paused(r, RESULT);
+    }
+    leave(index, stack, r, frame_at(frames, r.depth - 1))
+}
+
+// No step is left: a return in the only frame is still the result.
+fn settled(file: &[u8], r: Registers) -> Registers
+    requires { ⌜ Verified (now file) × Inside (r .at) × (offsetAt (r .at) + 4 ≤ length (payload (now file))) ⌝ }
+    ensures { λ t. ⌜ Settles (payload (now (file .entry))) r t ⌝ }
+{
+    if r.why != NO_STEPS {
+        return r;
+    }
+    if r.depth != 0 {
+        return r;
+    }
+    let f = fetch(file, r.at);
+    if f.word % 256 != 5 {
+        return r;
+    }
+    paused(r, RESULT)
 }
 
 // For the crates above: the run from a state on.
 pub fn drive(
     file: &[u8],
-    index: &[u32; 160],
+    index: &[u32; 128],
     cells: &mut [u16],
     stack: &mut [u16],
     frames: &mut [u16],
     m: Limits,
-    start: MachineState,
-    budget: usize,
-) -> Ended
-    requires { ⌜ Standing (programIn (now file)) m (now cells) (now stack) (now frames) start ⌝ }
-    requires { ⌜ Budgeted start budget ⌝ }
-    requires { ⌜ Indexed (now file) (now index) ⌝ }
-    ensures { λ o. ⌜ EndsAs (programIn (now (file .entry))) m budget (now (cells .entry)) (now (stack .entry)) (now (frames .entry)) start
-        (now (cells .exit)) (now (stack .exit)) (now (frames .exit)) o ⌝ }
+    start: Registers,
+) -> Registers
+    requires { ⌜ Begun (now file) (now index) m (now cells) (now stack) (now frames) start ⌝ }
+    ensures { λ t. ⌜ Ends (now (file .entry)) m (now (cells .entry)) (now (stack .entry)) (now (frames .entry)) start (now (cells .exit))
+        (now (stack .exit)) (now (frames .exit)) t ⌝ }
 {
-    let mut v = start;
-    loop {
-        let x = advance(file, index, cells, stack, frames, m, v, budget);
-        match x {
-            Transition::Again(t) => {
-                v = t;
-            }
-            Transition::Halted(o) => {
-                return o;
-            }
-        }
+    let mut r = start;
+    while r.why == GOES {
+        let t = straight(file, index, cells, stack, m, r);
+        r = turn(index, stack, frames, m, t);
     }
-}
-
-// For the crates above: after the run, the usable entries of all tables zero, any beyond kept.
-pub fn wipe_tables(cells: &mut [u16], stack: &mut [u16], frames: &mut [u16], m: Limits)
-    requires { ⌜ (5 * m .cells ≤ length (now cells)) × (m .stack ≤ length (now stack)) × (3 * m .frames ≤ length (now frames))
-        × (m .cells ≤ 65535) × (m .frames ≤ 65535) ⌝ }
-    ensures { λ _. ⌜ Wiped m (now (cells .entry)) (now (stack .entry)) (now (frames .entry)) (now (cells .exit)) (now (stack .exit))
-        (now (frames .exit)) ⌝ }
-{
-    wipe(cells, 5 * m.cells);
-    wipe(stack, m.stack);
-    wipe(frames, 3 * m.frames);
+    settled(file, r)
 }

@@ -45,7 +45,7 @@ module _ (s : Program) (heap : Heap) where
   result-alike (fr ∷ []) = bind-both (valueOf heap) (current s (placeOf fr)) _ _ (λ ins e. returned-alike ins (fr .stack))
   result-alike (fr ∷ w ∷ others) = refl
 
-  end-alike : (frames : List HeapFrame) → endOf s (map (frameOf heap) frames) ≡ endOn s heap frames
+  pub end-alike : (frames : List HeapFrame) → endOf s (map (frameOf heap) frames) ≡ endOn s heap frames
   unfolding endOf endOn
   end-alike [] = refl
   end-alike (fr ∷ others) = ap finishedWith (result-alike (fr ∷ others)) ∙ one (resultOn s (fr ∷ others))
@@ -99,7 +99,7 @@ module _ (s : Program) (m : Tables) where
       let room = bind-found (fits m (stateOf (next .0)) (length (next .0 .heap)) (fr .function) (fr .instruction)) _ (next .2) in
       rw (← found-inj (room .2)) (heap-grows s (heapState heap (fr ∷ others)) (next .0) ok (next .1) .valid)
 
-  continued-alike : (left steps : ℕ) (h : HeapState) → Valid h
+  pub continued-alike : (left steps : ℕ) (h : HeapState) → Valid h
       → continuedOn s m left steps h ≡ continued s m left steps (stateOf h) (length (h .heap))
   unfolding continuedOn
   continued-alike zero steps h ok = one (endOn s (h .heap) (h .frames)) refl
@@ -141,13 +141,13 @@ module _ (s : Program) (m : Tables) where
 ---- The start
 
 -- what is allocated for bytes: in order, a cell a byte, and the values that the bytes stand for
-record Allocated (s : Program) (bytes : List ℕ) : Type 0 where
-  earlier : NamesEarlier (allocatedFor s bytes .0)
-  there : All (Refers (allocatedFor s bytes .0)) (allocatedFor s bytes .1)
-  cells : length (allocatedFor s bytes .0) ≡ length bytes
-  stand : map (valueOf (allocatedFor s bytes .0)) (allocatedFor s bytes .1) ≡ values s bytes
+pub record Allocated (s : Program) (bytes : List ℕ) : Type 0 where
+  pub earlier : NamesEarlier (allocatedFor s bytes .0)
+  pub there : All (Refers (allocatedFor s bytes .0)) (allocatedFor s bytes .1)
+  pub cells : length (allocatedFor s bytes .0) ≡ length bytes
+  pub stand : map (valueOf (allocatedFor s bytes .0)) (allocatedFor s bytes .1) ≡ values s bytes
 
-allocated-all : (s : Program) (bytes : List ℕ) → Allocated s bytes
+pub allocated-all : (s : Program) (bytes : List ℕ) → Allocated s bytes
 unfolding allocatedFor values
 allocated-all s [] = record { earlier = λ k l. absurd (omega (arith, l)); there = l[]; cells = refl; stand = refl }
 allocated-all s (c ∷ bytes) = one (allocated-all s bytes)

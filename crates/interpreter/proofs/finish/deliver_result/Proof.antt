@@ -12,11 +12,7 @@ returns : tie.Need-returns
 returns c = delivers-short _ _ _ (c .before .count .ensures) (omega (arith, c .if1 .taken, c .before .count .ensures))
 
 write-requires : tie.Need-write-requires
-write-requires c κs =
-    let at-if1 = c .before in
-    let at-count = at-if1 .before in
-    let start = at-count .before .before .before .before in
-    (start .pre .0, (omega (arith, at-if1 .if1 .left, at-count .count .ensures), start .pre .1))
+write-requires c κs = search needs
 
 same-length : tie.Need-same-length
 same-length c = search needs

@@ -1,18 +1,18 @@
 -- `run_called` meets its contract: frames, stack and cells are tested in this order, and then the start fits.
 use mathlib.Core.Path.{sym, _∙_}
 use native.Mathlib.Omega.{arith}
-use Rattle.interpreter.proofs.CallLaws.{known-entry, inputs-are, out-of-frames, out-of-stack, out-of-cells, beginning}
+use Rattle.interpreter.proofs.CallLaws.{few-functions, inputs-are, out-of-frames, out-of-stack, out-of-cells, beginning}
 use borrow.Author.Needs.{needs}
 use Rattle.interpreter.proofs.running.run_called.Statement.{statement}
 use Rattle.interpreter.proofs.running.run_called.Tie as tie
 
-limits-requires : tie.Need-limits-requires
-limits-requires c κs = search needs
+usable-requires : tie.Need-usable-requires
+usable-requires c κs = search needs
 
 function-arity-requires : tie.Need-function-arity-requires
 function-arity-requires c κs =
     let start = c .before .before .before .before .before .before .before in
-    (start .pre .0 .indexed, known-entry (start .pre .0))
+    few-functions (start .pre .0)
 
 not-begun-requires : tie.Need-not-begun-requires
 not-begun-requires c κs = search needs
@@ -20,9 +20,9 @@ not-begun-requires c κs = search needs
 returns : tie.Need-returns
 returns c =
     let at-if1 = c .before in
-    let at-limits = at-if1 .before .before .before in
-    let start = at-limits .before .before .before .before .before .before .before in
-    rw (c .not-begun .ensures) (out-of-frames (start .pre .0) _ _ _ _ _ (sym (at-limits .limits .ensures .2) ∙ at-if1 .if1 .taken))
+    let at-usable = at-if1 .before .before .before in
+    let start = at-usable .before .before .before .before .before .before .before in
+    rw (c .not-begun .ensures) (out-of-frames (start .pre .0) _ _ _ _ _ (sym (at-usable .usable .ensures .2) ∙ at-if1 .if1 .taken))
 
 not-begun-requires-2 : tie.Need-not-begun-requires-2
 not-begun-requires-2 c κs = search needs
@@ -32,15 +32,15 @@ returns-2 c =
     let at-if2 = c .before in
     let at-if1 = at-if2 .before .before in
     let at-function-arity = at-if1 .before .before in
-    let at-limits = at-function-arity .before in
-    let start = at-limits .before .before .before .before .before .before .before in
-    rw (c .not-begun2 .ensures) (out-of-stack (start .pre .0) _ _ _ _ _ (omega (arith, at-limits .limits .ensures .2, at-if1 .if1 .left))
+    let at-usable = at-function-arity .before in
+    let start = at-usable .before .before .before .before .before .before .before in
+    rw (c .not-begun2 .ensures) (out-of-stack (start .pre .0) _ _ _ _ _ (omega (arith, at-usable .usable .ensures .2, at-if1 .if1 .left))
     (omega (
       arith,
-      at-limits .limits .ensures .1,
+      at-usable .usable .ensures .1,
       at-if2 .if2 .taken,
       inputs-are (start .pre .0)
-          (at-function-arity .function-arity .ensures .0),
+          (at-function-arity .function-arity .ensures),
     )))
 
 not-begun-requires-3 : tie.Need-not-begun-requires-3
@@ -52,16 +52,16 @@ returns-3 c =
     let at-if2 = at-if3 .before .before in
     let at-if1 = at-if2 .before .before in
     let at-function-arity = at-if1 .before .before in
-    let at-limits = at-function-arity .before in
-    let start = at-limits .before .before .before .before .before .before .before in
-    rw (c .not-begun3 .ensures) (out-of-cells (start .pre .0) _ _ _ _ _ (omega (arith, at-limits .limits .ensures .2, at-if1 .if1 .left))
+    let at-usable = at-function-arity .before in
+    let start = at-usable .before .before .before .before .before .before .before in
+    rw (c .not-begun3 .ensures) (out-of-cells (start .pre .0) _ _ _ _ _ (omega (arith, at-usable .usable .ensures .2, at-if1 .if1 .left))
     (omega (
       arith,
-      at-limits .limits .ensures .1,
+      at-usable .usable .ensures .1,
       at-if2 .if2 .left,
       inputs-are (start .pre .0)
-          (at-function-arity .function-arity .ensures .0),
-    )) (omega (arith, at-limits .limits .ensures .0, at-if3 .if3 .taken)))
+          (at-function-arity .function-arity .ensures),
+    )) (omega (arith, at-usable .usable .ensures .0, at-if3 .if3 .taken)))
 
 run-begun-requires : tie.Need-run-begun-requires
 run-begun-requires c κs =
@@ -69,9 +69,9 @@ run-begun-requires c κs =
     let at-if2 = at-if3 .before .before in
     let at-if1 = at-if2 .before .before in
     let at-function-arity = at-if1 .before .before in
-    let at-limits = at-function-arity .before in
-    let start = at-limits .before .before .before .before .before .before .before in
-    beginning (start .pre .0) _ _ _ _ _ (start .pre .1) (at-limits .limits .ensures) (at-function-arity .function-arity .ensures .0)
+    let at-usable = at-function-arity .before in
+    let start = at-usable .before .before .before .before .before .before .before in
+    beginning (start .pre .0) _ _ _ _ _ (start .pre .1) (at-usable .usable .ensures) (at-function-arity .function-arity .ensures)
     (omega (arith, at-if1 .if1 .left)) (omega (arith, at-if2 .if2 .left)) (omega (arith, at-if3 .if3 .left))
 
 same-length : tie.Need-same-length
@@ -93,7 +93,7 @@ pub run-called-spec : {M : Type 1} → statement M
 run-called-spec =
     tie.close
     (tie.spec
-    limits-requires
+    usable-requires
     function-arity-requires
     not-begun-requires
     returns

@@ -1,24 +1,27 @@
--- `load` meets its contract: the pending numbers that are left have one value for each parameter.
+-- `load` meets its contract: the pending references that are left have one value for each parameter.
 use native.Mathlib.Omega.{arith}
-use Rattle.interpreter.proofs.LoadLaws.{loading-arguments, pending-end, loaded}
+use Rattle.interpreter.proofs.LoadLaws.{loading-arguments, few-bytes, pending-end, loaded}
 use borrow.Author.Needs.{needs}
 use Rattle.interpreter.proofs.start.load.Statement.{statement}
 use Rattle.interpreter.proofs.start.load.Tie as tie
 
 make-arguments-requires : tie.Need-make-arguments-requires
 make-arguments-requires c κs =
-    let start = c .before .before .before .before .before in
-    (loading-arguments (start .pre .0), ((start .pre .0 .lent .cell-room, start .pre .0 .lent .few-cells), start .pre .1))
+    let (s, l) = c .before .before .before .before .pre .0 in
+    ((s, loading-arguments l), (few-bytes l, l .room))
 
-place-arguments-requires : tie.Need-place-arguments-requires
-place-arguments-requires c κs =
+slice-aggregate-copy : tie.Need-slice-aggregate-copy
+slice-aggregate-copy c = search needs
+
+copy-requires : tie.Need-copy-requires
+copy-requires c κs =
     let at-make-arguments = c .before .before .before .before .before in
-    let start = at-make-arguments .before .before .before .before .before .before in (
-      omega (arith, pending-end (start .pre .0) (at-make-arguments .make-arguments .ensures .0)),
-      omega
-          (arith, start .pre .0 .slots, start .pre .0 .lent .place-room),
-      start .pre .0 .few,
-    )
+    let (s, l) = at-make-arguments .before .before .before .before .before .pre .0 in
+    let e = pending-end l (at-make-arguments .make-arguments .ensures s (loading-arguments l)) in
+    (omega (arith, slice-aggregate-copy (c .before)), omega (arith, l .slots), l .few)
+
+code-at-requires : tie.Need-code-at-requires
+code-at-requires c κs = search needs
 
 same-length : tie.Need-same-length
 same-length c = search needs
@@ -28,13 +31,20 @@ same-length-2 c = search needs
 
 returns : tie.Need-returns
 returns c =
-    let at-place-arguments = c .before .before in
-    let at-make-arguments = at-place-arguments .before .before .before .before .before .before in
-    let start = at-make-arguments .before .before .before .before .before .before in
-    loaded (start .pre .0) (at-make-arguments .make-arguments .ensures .0) (at-place-arguments .place-arguments .ensures)
-    (at-make-arguments .make-arguments .ensures .1)
+    let at-copy = c .before .before .before in
+    let at-make-arguments = at-copy .before .before .before .before .before .before in (
+      rw (c .code-at .ensures),
+      λ s l. loaded l (at-make-arguments .make-arguments .ensures s (loading-arguments l)) (at-copy .copy .ensures),
+    )
 
 pub load-spec : {M : Type 1} → statement M
 load-spec =
     tie.close
-    (tie.spec make-arguments-requires place-arguments-requires same-length same-length-2 returns)
+    (tie.spec
+    make-arguments-requires
+    slice-aggregate-copy
+    copy-requires
+    code-at-requires
+    same-length
+    same-length-2
+    returns)

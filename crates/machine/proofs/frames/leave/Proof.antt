@@ -1,156 +1,94 @@
--- A return above a waiting frame is one step of the machine.
-use mathlib.Core.Path.{ap}
+-- The waiting frame's numbers are widened, and the top value takes the place of the call's arguments.
 use native.Mathlib.Omega.{arith}
-use Rattle.machine.specs.declared.state.Waiting.{Waiting}
-use Rattle.machine.proofs.ReturnLaws.{leave-facts, leave-done}
+use Rattle.machine.specs.Turns.{leave-goes}
 use borrow.Author.Needs.{needs}
 use Rattle.machine.proofs.frames.leave.Statement.{statement}
 use Rattle.machine.proofs.frames.leave.Tie as tie
 
-finish-requires : tie.Need-finish-requires
-finish-requires c κs = search needs
-
-same-length : tie.Need-same-length
-same-length c = search needs
-
-returns : tie.Need-returns
-returns c = search needs
-
-sub-last : tie.Need-sub-last
-sub-last c =
-    let at-if1 = c .before .before in
-    let start = at-if1 .before .before .before .before .before in
-    omega (arith, leave-facts _ _ _ _ _ _ (start .args .budget) (start .pre .0) (start .pre .1 .0 .is) (at-if1 .if1 .left))
-
 function-arity-requires : tie.Need-function-arity-requires
-function-arity-requires c κs =
-    let at-if1 = c .before .before in
-    let start = at-if1 .before .before .before .before .before in
-    (start .pre .1 .1 .1, leave-facts _ _ _ _ _ _ (start .args .budget) (start .pre .0) (start .pre .1 .0 .is) (at-if1 .if1 .left) .0)
+function-arity-requires c κs = search needs
 
-sub-frame-at : tie.Need-sub-frame-at
-sub-frame-at c = search needs
+sub-under : tie.Need-sub-under
+sub-under c = search needs
 
-frame-at-requires : tie.Need-frame-at-requires
-frame-at-requires c κs = search needs
-
-sub-at : tie.Need-sub-at
-sub-at c =
-    let at-function-arity = c .before .before in
-    let at-if1 = at-function-arity .before .before .before in
-    let start = at-if1 .before .before .before .before .before in
-    omega (
-      arith,
-      leave-facts _ _ _ _ _ _ (start .args .budget) (start .pre .0) (start .pre .1 .0 .is) (at-if1 .if1 .left),
-      at-function-arity .function-arity .ensures .0,
-    )
+sub-stack : tie.Need-sub-stack
+sub-stack c = search needs
 
 mul-stack : tie.Need-mul-stack
 mul-stack c = search needs
 
 slice-read-stack : tie.Need-slice-read-stack
-slice-read-stack c =
-    let at-if1 = c .before .before .before .before .before .before in
-    let start = at-if1 .before .before .before .before .before in
-    omega (
-      arith,
-      leave-facts _ _ _ _ _ _ (start .args .budget) (start .pre .0) (start .pre .1 .0 .is) (at-if1 .if1 .left),
-      start .pre .0 .local .places,
-      start .pre .0 .lent .place-room,
-    )
+slice-read-stack c = search needs
 
 mul-stack-2 : tie.Need-mul-stack-2
 mul-stack-2 c = search needs
 
 slice-write-stack : tie.Need-slice-write-stack
-slice-write-stack c =
-    let at-function-arity = c .before .before .before in
-    let at-if1 = at-function-arity .before .before .before in
-    let start = at-if1 .before .before .before .before .before in
-    omega (
-      arith,
-      leave-facts _ _ _ _ _ _ (start .args .budget) (start .pre .0) (start .pre .1 .0 .is) (at-if1 .if1 .left),
-      start .pre .0 .local .places,
-      start .pre .0 .lent .place-room,
-      at-function-arity .function-arity .ensures .0,
-    )
+slice-write-stack c = search needs
 
 wide16-requires : tie.Need-wide16-requires
 wide16-requires c κs = search needs
 
+code-at-requires : tie.Need-code-at-requires
+code-at-requires c κs = search needs
+
 wide16-requires-2 : tie.Need-wide16-requires-2
 wide16-requires-2 c κs = search needs
 
-add-t24 : tie.Need-add-t24
-add-t24 c = search needs
+place-behind-requires : tie.Need-place-behind-requires
+place-behind-requires c κs =
+    let start = c .before .before .before .before .before .before .before .before in
+    rw (c .before .code-at .ensures, c .before .before .wide16 .ensures .0)
+    (start .pre .1 .0 .3, start .pre .1 .0 .4, omega (arith, c .wide162 .ensures .0, start .pre .1 .0 .1))
 
 wide16-requires-3 : tie.Need-wide16-requires-3
 wide16-requires-3 c κs = search needs
 
-sub-t26 : tie.Need-sub-t26
-sub-t26 c =
-    let at-wide163 = c .before in
-    let at-frame-at = at-wide163 .before .before .before .before .before in
-    let at-if1 = at-frame-at .before .before .before .before in
-    let start = at-if1 .before .before .before .before .before in
-    omega (
-      arith,
-      leave-facts _ _ _ _ _ _ (start .args .budget) (start .pre .0) (start .pre .1 .0 .is) (at-if1 .if1 .left),
-      at-wide163 .wide163 .ensures .0,
-      ap (λ (x : Waiting). x .height) (at-frame-at .frame-at .ensures),
-    )
+sub-t15 : tie.Need-sub-t15
+sub-t15 c = search needs
 
-add-t27 : tie.Need-add-t27
-add-t27 c = search needs
+add-t16 : tie.Need-add-t16
+add-t16 c = search needs
 
-sub-t19 : tie.Need-sub-t19
-sub-t19 c = search needs
+sub-t17 : tie.Need-sub-t17
+sub-t17 c = search needs
 
-add-t27-2 : tie.Need-add-t27-2
-add-t27-2 c =
-    let back = c .before .before .before .before .before .before .before .before in
-    let start = back .before .before .before .before .before .before .before .before in
-    omega (arith, start .pre .1 .1 .0 .left, start .pre .1 .1 .0 .small)
+sub-t18 : tie.Need-sub-t18
+sub-t18 c = c .before .before .before .before .before .before .before .before .before .before .before .before .before .pre .1 .1 .1
 
-same-length-2 : tie.Need-same-length-2
-same-length-2 c = search needs
+same-length : tie.Need-same-length
+same-length c = search needs
 
-returns-2 : tie.Need-returns-2
-returns-2 c =
-    let at-wide163 = c .before .before in
-    let at-wide162 = at-wide163 .before in
-    let at-wide16 = at-wide162 .before in
-    let at-frame-at = at-wide16 .before .before .before in
-    let at-function-arity = at-frame-at .before in
-    let at-if1 = at-function-arity .before .before .before in
-    let start = at-if1 .before .before .before .before .before in
-    leave-done _ _ _ _ _ _ (start .args .budget) (start .pre .0) (start .pre .1 .0 .is) (at-if1 .if1 .left) _ _ _ _ _
-    (at-function-arity .function-arity .ensures .0) (at-frame-at .frame-at .ensures) (at-wide16 .wide16 .ensures .0)
-    (at-wide162 .wide162 .ensures .0) (at-wide163 .wide163 .ensures .0) (start .pre .1 .1 .0 .left)
+returns : tie.Need-returns
+returns c =
+    let at-place-behind = c .before .before .before .before in
+    let at-code-at = at-place-behind .before .before in
+    let code = at-code-at .code-at .ensures in
+    let function = at-code-at .before .wide16 .ensures .0 in
+    let behind = at-place-behind .place-behind .ensures in
+    let arity = at-code-at .before .before .before .before .before .function-arity .ensures in
+    rw (code, function, c .before .before .before .wide163 .ensures .0, arity)
+    (leave-goes (rw (code, function, at-place-behind .before .wide162 .ensures .0) at (behind .0)) (behind .1))
 
 pub leave-spec : {M : Type 1} → statement M
 leave-spec =
     tie.close
     (tie.spec
-    finish-requires
-    same-length
-    returns
-    sub-last
     function-arity-requires
-    sub-frame-at
-    frame-at-requires
-    sub-at
+    sub-under
+    sub-stack
     mul-stack
     slice-read-stack
     mul-stack-2
     slice-write-stack
     wide16-requires
+    code-at-requires
     wide16-requires-2
-    add-t24
+    place-behind-requires
     wide16-requires-3
-    sub-t26
-    add-t27
-    sub-t19
-    add-t27-2
-    same-length-2
-    returns-2)
+    sub-t15
+    add-t16
+    sub-t17
+    sub-t18
+    same-length
+    returns)

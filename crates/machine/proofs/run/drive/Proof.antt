@@ -1,76 +1,73 @@
--- By the invariant that the start leads to the state of the transition.
-use Prim.Native.Nat.{_-_}
-use mathlib.Core.Path.{_∙_}
-use Rattle.rules.specs.Records.{programIn}
-use Rattle.machine.specs.Frames.{LeadsTo}
-use Rattle.machine.proofs.DriveLaws.{leads-none, drive-again, drive-less, drive-halted}
-use borrow.Author.Needs.{needs}
+-- By the invariant that the run has come so far; each turn is the top frame's steps and what they end in.
+use Rattle.store.proofs.CellLaws.{cells-kept-length}
+use Rattle.store.proofs.FrameLaws.{frames-kept-length}
+use Rattle.machine.proofs.DriveLaws.{turns, turn-less, Drove, drove-none, drove-more, drove-ends, ready-now, rested-now}
+use Rattle.machine.proofs.DriveLaws.{settled-ready, settled-left}
 use Rattle.machine.proofs.run.drive.Statement.{statement}
 use Rattle.machine.proofs.run.drive.Tie as tie
 
 abbrev Inv-loop : tie.InvT-loop
-Inv-loop file index cells₀ stack₀ frames₀ m budget v₀ cells stack frames v =
-    LeadsTo (programIn file) m budget cells₀ stack₀ frames₀ v₀ cells stack frames v
+Inv-loop file index cells₀ stack₀ frames₀ m r₀ cells stack frames r = Drove file m cells₀ stack₀ frames₀ r₀ cells stack frames r
 
 abbrev μ-loop : tie.MeasureT-loop
-μ-loop file index cells₀ stack₀ frames₀ m budget v₀ cells stack frames v = budget - v .steps
+μ-loop file index cells₀ stack₀ frames₀ m r₀ cells stack frames r = turns (r .why) (r .left)
 
 loop-holds : tie.Need-loop-holds Inv-loop μ-loop
 loop-holds c =
-    let start = c .before .before .before .before in
-    leads-none _ _ _ _ _ _ _ (start .pre .0) (start .pre .1 .0)
+    drove-none _ _ _ _ _ _ _ (c .before .before .before .before .pre)
 
-advance-requires : tie.Need-advance-requires Inv-loop μ-loop
-advance-requires c κs =
-    let at-loop = c .before .before .before in
-    let start = at-loop .before .before .before .before .before in
-    (at-loop .loop .inv .standing, (record { within = at-loop .loop .inv .within; small = start .pre .1 .0 .small }, start .pre .1 .1))
+straight-requires : tie.Need-straight-requires Inv-loop μ-loop
+straight-requires c κs =
+    ready-now _ _ _ _ _ _ _ (c .before .before .before .before .before .before .before .before .before .pre) _ _ _ _
+    (c .before .before .before .before .loop .inv) (c .before .before .if1 .taken)
 
-enum-known-x : tie.Need-enum-known-x Inv-loop μ-loop
-enum-known-x c = search needs
+turn-requires : tie.Need-turn-requires Inv-loop μ-loop
+turn-requires c κs =
+    let at-straight = c .before .before .before .before .before .before in
+    let at-loop = at-straight .before .before .before .before .before in
+    let start = at-loop .before .before .before .before .before in (
+      start .args .file .now,
+      _,
+      rested-now _ _ _ _ _ _ _ (start .pre) _ _ _ _ (at-loop .loop .inv) _ _ _ (at-straight .straight .ensures),
+    )
 
 loop-less : tie.Need-loop-less Inv-loop μ-loop
 loop-less c =
-    let at-x = c .before in
-    let at-advance = at-x .before .before .before .before .before .before .before .before in
-    drive-less _ _ _ _ _ _ _ _ _ _ (at-advance .advance .result) _ (at-x .x .given .1) (at-advance .advance .ensures)
+    let at-turn = c .before .before .before .before in
+    let at-straight = at-turn .before .before .before .before .before .before .before in
+    let at-loop = at-straight .before .before .before .before .before in
+    let start = at-loop .before .before .before .before .before in
+    turn-less _ _ _ _ _ _ _ (start .pre) _ _ _ _ (at-loop .loop .inv) _ _ _ (at-straight .straight .ensures) _ _ _ (at-turn .turn .ensures)
+    (at-straight .before .before .before .if1 .taken)
 
 loop-again : tie.Need-loop-again Inv-loop μ-loop
 loop-again c =
-    let at-x = c .before in
-    let at-advance = at-x .before .before .before .before .before .before .before .before in
-    let at-loop = at-advance .before .before .before .before in
-    drive-again _ _ _ _ _ _ _ _ _ _ _ _ _ _ (at-advance .advance .result) _ (at-x .x .given .1) (at-loop .loop .inv)
-    (at-advance .advance .ensures)
+    let at-turn = c .before .before .before .before in
+    let at-straight = at-turn .before .before .before .before .before .before .before in
+    let at-loop = at-straight .before .before .before .before .before in
+    let start = at-loop .before .before .before .before .before in
+    drove-more _ _ _ _ _ _ _ (start .pre) _ _ _ _ (at-loop .loop .inv) _ _ _ (at-straight .straight .ensures) _ _ _ (at-turn .turn .ensures)
 
-enum-known-x-2 : tie.Need-enum-known-x-2 Inv-loop μ-loop
-enum-known-x-2 c = search needs
+settled-requires : tie.Need-settled-requires Inv-loop μ-loop
+settled-requires c κs =
+    settled-ready _ _ _ _ _ _ _ (c .before .before .before .before .before .before .before .pre) _ _ _ _ (c .before .before .loop .inv)
 
 same-length : tie.Need-same-length Inv-loop μ-loop
 same-length c =
-    let at-advance = c .before .before .before .before .before .before .before .before .before in
-    let at-loop = at-advance .before .before .before .before in
-    at-advance .advance .kept .1 .1 .0 ∙ at-loop .loop .inv .spared .of-cells .len
+    cells-kept-length _ _ _ (c .before .before .before .loop .inv .spared .of-cells)
 
 same-length-2 : tie.Need-same-length-2 Inv-loop μ-loop
 same-length-2 c =
-    let at-advance = c .before .before .before .before .before .before .before .before .before in
-    let at-loop = at-advance .before .before .before .before in
-    at-advance .advance .kept .1 .1 .1 .0 ∙ at-loop .loop .inv .spared .of-stack .len
+    c .before .before .before .loop .inv .spared .of-stack .len
 
 same-length-3 : tie.Need-same-length-3 Inv-loop μ-loop
 same-length-3 c =
-    let at-advance = c .before .before .before .before .before .before .before .before .before in
-    let at-loop = at-advance .before .before .before .before in
-    at-advance .advance .kept .1 .1 .1 .1 .0 ∙ at-loop .loop .inv .spared .of-frames .len
+    frames-kept-length _ _ _ (c .before .before .before .loop .inv .spared-frames)
 
 returns : tie.Need-returns Inv-loop μ-loop
 returns c =
-    let at-x2 = c .before in
-    let at-advance = at-x2 .before .before .before .before .before .before .before .before in
-    let at-loop = at-advance .before .before .before .before in
-    drive-halted _ _ _ _ _ _ _ _ _ _ _ _ _ _ (at-advance .advance .result) _ (at-x2 .x2 .given .1) (at-loop .loop .inv)
-    (at-advance .advance .ensures)
+    drove-ends _ _ _ _ _ _ _ (c .before .before .before .before .before .before .before .before .pre) _ _ _ _
+    (c .before .before .before .loop .inv) (c .before .if1 .left) (c .settled .ensures) (settled-left (c .settled .ensures))
 
 pub drive-spec : {M : Type 1} → statement M
 drive-spec =
@@ -79,11 +76,11 @@ drive-spec =
     Inv-loop
     μ-loop
     loop-holds
-    advance-requires
-    enum-known-x
+    straight-requires
+    turn-requires
     loop-less
     loop-again
-    enum-known-x-2
+    settled-requires
     same-length
     same-length-2
     same-length-3

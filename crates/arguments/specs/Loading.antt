@@ -1,0 +1,37 @@
+-- Loading the arguments: cells from the last byte to the first, and 256 pending references that no cell has taken yet.
+use mathlib.Core.Path.{_≡_}
+use mathlib.Core.List.{List}
+use Prim.Native.Nat.{ℕ, _-_, _≤_, _<_}
+use lib.ListN.{length, getD, drop}
+use Rattle.rules.specs.Base.{passed}
+use Rattle.rules.specs.Heap.{allocatedFor}
+use Rattle.rules.specs.Prefix.{readBytes, arityOf}
+use Rattle.rules.specs.Program.{Program, constructor}
+use Rattle.store.specs.Cells.{refs, constructorIn, heapIn, CellsKept}
+
+-- how many arguments constructor c of a program has
+abbrev pub arity : Program → ℕ → ℕ
+arity s c = arityOf (constructor s c)
+
+-- the bytes passed the check for these parameters, and the index has the arities of the program's constructors
+pub record Loading (s : Program) (index bytes : List ℕ) : Type 0 where
+  pub pending : List ℕ
+  pub right : readBytes s 0 bytes pending ≡ passed
+  pub few : length pending ≤ 256
+  pub indexed : (c : ℕ) → c < length (s .constructors) → (c < 64) × (getD index c 0 ≡ arity s c) × (arity s c ≤ 4)
+
+-- the first cells are those of the bytes from i on, and the references from a place on are those to their values
+pub record MadeFrom (s : Program) (bytes : List ℕ) (i used : ℕ) (cells cells′ numbers : List ℕ) (at : ℕ) : Type 0 where
+  pub heap : heapIn (arity s) cells′ used ≡ allocatedFor s (drop i bytes) .0
+  pub values : refs numbers at (256 - at) ≡ allocatedFor s (drop i bytes) .1
+  pub low : at ≤ 256
+  pub kept : CellsKept (length bytes) cells cells′
+  pub known : (k : ℕ) → k < used → constructorIn cells′ k < length (s .constructors)
+
+-- the cells of all bytes
+pub record MadeFor (s : Program) (bytes cells cells′ numbers : List ℕ) (at : ℕ) : Type 0 where
+  pub heap : heapIn (arity s) cells′ (length bytes) ≡ allocatedFor s bytes .0
+  pub values : refs numbers at (256 - at) ≡ allocatedFor s bytes .1
+  pub low : at ≤ 256
+  pub kept : CellsKept (length bytes) cells cells′
+  pub known : (k : ℕ) → k < length bytes → constructorIn cells′ k < length (s .constructors)

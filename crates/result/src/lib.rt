@@ -1,0 +1,83 @@
+// The result: how many bytes it has, and its bytes in prefix order. A cell names only cells before it, so the recursion's cell number
+// falls. All arguments but the last are taken by a call and the last by going round: lists and numbers, however long, take one call.
+use store::argument_at;
+use store::constructor_at;
+use store::wide32;
+ghost use mathlib.Core.Path.{_≡_};
+ghost use Prim.Native.Nat.{_+_, _≤_, _<_};
+ghost use lib.ListN.{length, getD};
+ghost use lib.Seq.{sets};
+ghost use Rattle.rules.specs.Memory.{frontWritten};
+ghost use Rattle.store.specs.Cells.{constructorIn};
+ghost use Rattle.result.specs.Result.{bytesOf, Readable};
+
+// How many arguments cell k has.
+fn arity_at(index: &[u32; 128], cells: &[u16], k: usize) -> usize
+    requires { ⌜ Readable (now index) (now cells) k ⌝ }
+    ensures { λ r. ⌜ r ≡ getD (now (index .entry)) (constructorIn (now (cells .entry)) k) 0 ⌝ }
+{
+    let c = constructor_at(cells, k);
+    wide32(index[c])
+}
+
+// For the crates above: how many bytes the value of cell k has.
+pub fn count(index: &[u32; 128], cells: &[u16], k: usize) -> usize
+    requires { ⌜ Readable (now index) (now cells) k ⌝ }
+    requires { ⌜ length (bytesOf (now index) (now cells) k) < 4294967296 ⌝ }
+    ensures { λ r. ⌜ r ≡ length (bytesOf (now (index .entry)) (now (cells .entry)) k) ⌝ }
+{
+    let mut here = k;
+    let mut n = arity_at(index, cells, here);
+    let mut total: usize = 1;
+    let mut j: usize = 0;
+    while j < n {
+        let child = argument_at(cells, here, j);
+        if j + 1 < n {
+            total += count(index, cells, child);
+            j += 1;
+        } else {
+            here = child;
+            n = arity_at(index, cells, here);
+            total += 1;
+            j = 0;
+        }
+    }
+    total
+}
+
+// Writes the value of cell k from a place on, and returns the next place.
+fn write_value(index: &[u32; 128], cells: &[u16], out: &mut [u8], k: usize, at: usize) -> usize
+    requires { ⌜ Readable (now index) (now cells) k ⌝ }
+    requires { ⌜ at + length (bytesOf (now index) (now cells) k) ≤ length (now out) ⌝ }
+    ensures { λ r. ⌜ (r ≡ at + length (bytesOf (now (index .entry)) (now (cells .entry)) k))
+        × (now (out .exit) ≡ sets (now (out .entry)) at (bytesOf (now (index .entry)) (now (cells .entry)) k)) ⌝ }
+{
+    let mut here = k;
+    let mut n = arity_at(index, cells, here);
+    out[at] = constructor_at(cells, here) as u8;
+    let mut next = at + 1;
+    let mut j: usize = 0;
+    while j < n {
+        let child = argument_at(cells, here, j);
+        if j + 1 < n {
+            next = write_value(index, cells, out, child, next);
+            j += 1;
+        } else {
+            out[next] = constructor_at(cells, child) as u8;
+            next += 1;
+            here = child;
+            n = arity_at(index, cells, here);
+            j = 0;
+        }
+    }
+    next
+}
+
+// For the crates above: writes the value of cell k to the output's front.
+pub fn write(index: &[u32; 128], cells: &[u16], k: usize, out: &mut [u8])
+    requires { ⌜ Readable (now index) (now cells) k ⌝ }
+    requires { ⌜ length (bytesOf (now index) (now cells) k) ≤ length (now out) ⌝ }
+    ensures { λ _. ⌜ now (out .exit) ≡ frontWritten (bytesOf (now (index .entry)) (now (cells .entry)) k) (now (out .entry)) ⌝ }
+{
+    write_value(index, cells, out, k, 0);
+}

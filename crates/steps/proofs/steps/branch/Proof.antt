@@ -1,0 +1,129 @@
+-- The top value is of the constructor or not, and its arguments have room or not. `is` says that the constructor read is the top cell's.
+use native.Mathlib.Omega.{arith}
+use mathlib.Core.Path.{sym, _∙_}
+use Prim.Native.Nat.{_+_}
+use Rattle.store.proofs.CellLaws.{room-less}
+use Rattle.steps.specs.Steps.{branch-passes, branch-full, branch-takes}
+use borrow.Author.Needs.{needs}
+use Rattle.steps.proofs.steps.branch.Statement.{statement}
+use Rattle.steps.proofs.steps.branch.Tie as tie
+
+sub-last : tie.Need-sub-last
+sub-last c = search needs
+
+mul-wide16 : tie.Need-mul-wide16
+mul-wide16 c = search needs
+
+slice-read-wide16 : tie.Need-slice-read-wide16
+slice-read-wide16 c = search needs
+
+wide16-requires : tie.Need-wide16-requires
+wide16-requires c κs = search needs
+
+constructor-at-requires : tie.Need-constructor-at-requires
+constructor-at-requires c κs =
+    let start = c .before .before .before .before .before in (
+      room-less (start .args .cells .now) (start .args .m .cells) (c .wide16 .result + 1) (start .pre .0 .0 .cell-room) (omega arith),
+      c .wide16 .ensures .1,
+    )
+
+sub-place-behind : tie.Need-sub-place-behind
+sub-place-behind c =
+    let read = c .before in
+    let is = rw (read .before .wide16 .ensures .0) at (read .constructor-at .ensures .0) in
+    read .before .before .before .before .before .before .pre .1 .1 (λ e. c .if1 .taken (is ∙ e)) .0
+
+place-behind-requires : tie.Need-place-behind-requires
+place-behind-requires c κs =
+    let read = c .before in
+    let is = rw (read .before .wide16 .ensures .0) at (read .constructor-at .ensures .0) in
+    let other = read .before .before .before .before .before .before .pre .1 .1 (λ e. c .if1 .taken (is ∙ e)) in
+    (other .2, other .3, omega (arith, other .1))
+
+went-requires : tie.Need-went-requires
+went-requires c κs = search needs
+
+returns : tie.Need-returns
+returns c =
+    let read = c .before .before .before in
+    let is = rw (read .before .wide16 .ensures .0) at (read .constructor-at .ensures .0) in
+    let behind = c .before .place-behind .ensures in
+    rw (c .went .ensures) (branch-passes (λ e. c .before .before .if1 .taken (is ∙ e)) (behind .0) (behind .1))
+
+constructor-arity-requires : tie.Need-constructor-arity-requires
+constructor-arity-requires c κs =
+    let read = c .before in
+    let is = rw (read .before .wide16 .ensures .0) at (read .constructor-at .ensures .0) in
+    read .before .before .before .before .before .before .pre .1 .0 (sym is ∙ c .if1 .left) .0
+
+add-if2 : tie.Need-add-if2
+add-if2 c =
+    let read = c .before .before in
+    let is = rw (read .before .wide16 .ensures .0) at (read .constructor-at .ensures .0) in
+    omega (arith, read .before .before .before .before .before .before .pre .1 .0 (sym is ∙ c .before .if1 .left) .1)
+
+paused-requires : tie.Need-paused-requires
+paused-requires c κs = search needs
+
+returns-2 : tie.Need-returns-2
+returns-2 c =
+    let at-if1 = c .before .before .before .before in
+    let read = at-if1 .before in
+    let is = rw (read .before .wide16 .ensures .0) at (read .constructor-at .ensures .0) in
+    rw (c .paused .ensures) (branch-full (sym is ∙ at-if1 .if1 .left) (omega arith))
+
+spread-requires : tie.Need-spread-requires
+spread-requires c κs =
+    let at-if1 = c .before .before .before .before in
+    let read = at-if1 .before in
+    let is = rw (read .before .wide16 .ensures .0) at (read .constructor-at .ensures .0) in
+    let start = read .before .before .before .before .before .before in
+    let top = read .before .wide16 in
+    let lent = start .pre .0 .0 in (
+      room-less (start .args .cells .now) (start .args .m .cells) (top .result + 1) (lent .cell-room) (omega arith),
+      top .ensures .1,
+      omega (arith, start .pre .1 .0 (sym is ∙ at-if1 .if1 .left) .1),
+      omega (arith, lent .stack-room),
+    )
+
+add-went : tie.Need-add-went
+add-went c = search needs
+
+went-requires-2 : tie.Need-went-requires-2
+went-requires-2 c κs = search needs
+
+same-length : tie.Need-same-length
+same-length c = search needs
+
+returns-3 : tie.Need-returns-3
+returns-3 c =
+    let at-constructor-arity = c .before .before .before .before .before .before .before in
+    let at-if1 = at-constructor-arity .before in
+    let read = at-if1 .before in
+    let is = rw (read .before .wide16 .ensures .0) at (read .constructor-at .ensures .0) in
+    let arity = at-constructor-arity .constructor-arity .ensures in
+    let put = rw (read .before .wide16 .ensures .0, arity) at (c .before .before .before .spread .ensures) in
+    rw (c .went2 .ensures, arity) (branch-takes (sym is ∙ at-if1 .if1 .left) (omega arith) put)
+
+pub branch-spec : {M : Type 1} → statement M
+branch-spec =
+    tie.close
+    (tie.spec
+    sub-last
+    mul-wide16
+    slice-read-wide16
+    wide16-requires
+    constructor-at-requires
+    sub-place-behind
+    place-behind-requires
+    went-requires
+    returns
+    constructor-arity-requires
+    add-if2
+    paused-requires
+    returns-2
+    spread-requires
+    add-went
+    went-requires-2
+    same-length
+    returns-3)

@@ -1,0 +1,46 @@
+// The top frame in registers, and why it rests.
+ghost use mathlib.Core.Path.{_≡_};
+ghost use Rattle.steps.specs.Steps.{resting};
+
+// The top frame: its function, the place in the file of that function's code and of its own instruction, its part of the stack, the cells
+// in use, how many frames wait below it, the steps that are left. Where it rests: the function that it calls, and why.
+pub struct Registers {
+    pub function: usize,
+    pub code: usize,
+    pub at: usize,
+    pub base: usize,
+    pub top: usize,
+    pub used: usize,
+    pub depth: usize,
+    pub left: usize,
+    pub callee: usize,
+    pub why: u8,
+}
+
+// Why the top frame rests: a small number, since it is asked for after every step. From 14 on it is document 01's.
+pub const GOES: u8 = 0;
+
+pub const CALLS: u8 = 1;
+
+pub const RETURNS: u8 = 2;
+
+pub const RESULT: u8 = 3;
+
+pub const STOPS: u8 = 4;
+
+pub const NO_STEPS: u8 = 14;
+
+pub const NO_CELLS: u8 = 15;
+
+pub const NO_STACK: u8 = 16;
+
+pub const NO_FRAMES: u8 = 17;
+
+// For the crates above: the frame rests, and why.
+pub fn paused(r: Registers, why: u8) -> Registers
+    ensures { λ t. ⌜ t ≡ resting r why ⌝ }
+{
+    let mut t = r;
+    t.why = why;
+    t
+}

@@ -1,0 +1,5 @@
+pub mod RefLaws
+pub mod CellLaws
+pub mod CopyLaws
+pub mod FrameLaws
+pub mod LimitLaws

@@ -1,0 +1,56 @@
+-- Three numbers read.
+use mathlib.Core.Path.{refl}
+use native.Mathlib.Omega.{arith}
+use Rattle.store.specs.Frames.{frameIn, FrameRoom}
+use borrow.Author.Needs.{needs}
+use Rattle.store.proofs.frames.frame_at.Statement.{statement}
+use Rattle.store.proofs.frames.frame_at.Tie as tie
+
+mul-at : tie.Need-mul-at
+mul-at c = search needs
+
+mul-t4 : tie.Need-mul-t4
+mul-t4 c = search needs
+
+shared-slice-read-t6 : tie.Need-shared-slice-read-t6
+unfolding FrameRoom
+shared-slice-read-t6 c = omega arith
+
+add-t7 : tie.Need-add-t7
+add-t7 c = search needs
+
+mul-t8 : tie.Need-mul-t8
+mul-t8 c = search needs
+
+shared-slice-read-t10 : tie.Need-shared-slice-read-t10
+unfolding FrameRoom
+shared-slice-read-t10 c = omega arith
+
+add-t11 : tie.Need-add-t11
+add-t11 c = search needs
+
+mul-t12 : tie.Need-mul-t12
+mul-t12 c = search needs
+
+shared-slice-read-t14 : tie.Need-shared-slice-read-t14
+unfolding FrameRoom
+shared-slice-read-t14 c = omega arith
+
+returns : tie.Need-returns
+unfolding frameIn
+returns c = refl
+
+pub frame-at-spec : {M : Type 1} → statement M
+frame-at-spec =
+    tie.close
+    (tie.spec
+    mul-at
+    mul-t4
+    shared-slice-read-t6
+    add-t7
+    mul-t8
+    shared-slice-read-t10
+    add-t11
+    mul-t12
+    shared-slice-read-t14
+    returns)
