@@ -4,6 +4,7 @@ ghost use lib.ListN.{length};
 ghost use Rattle.cases.specs.Window.{Within};
 use crate::commands;
 use libc::STDIN_FILENO;
+use libc::STDOUT_FILENO;
 use protocol::answers;
 
 // The bytes from `from` up to `to` are not answered yet, and no line ends before `seen`. Of a line that is too long for the
@@ -31,12 +32,26 @@ fn line_end(buffer: &[u8], seen: usize, to: usize) -> usize
     i
 }
 
-fn answer(line: &mut [u8], cut: bool) {
+fn say(line: &mut [u8], cut: bool) {
     if cut {
         answers::bad_command();
     } else {
         commands::answer(line);
     }
+}
+
+// The end of an answer. False where it cannot be written, which standard error then says.
+fn end_line() -> bool {
+    if io::write_all(STDOUT_FILENO, b"\n") {
+        return true;
+    }
+    os::fail(b"standard output");
+    false
+}
+
+fn answer(line: &mut [u8], cut: bool) -> bool {
+    say(line, cut);
+    end_line()
 }
 
 // Move the bytes that are not answered yet to the buffer's front.
@@ -97,7 +112,7 @@ fn more(buffer: &mut [u8], window: Window) -> Window
     }
 }
 
-// One turn: answer a line that is there whole, or make room, or read.
+// One turn: answer a line that is there whole, or make room, or read. It is the last where an answer cannot be written.
 pub fn turn(buffer: &mut [u8], window: Window) -> Window
     requires { ⌜ Within window (length (now buffer)) ⌝ }
     ensures { λ r. ⌜ Within r (length (now (buffer .exit))) ⌝ }
@@ -106,13 +121,13 @@ pub fn turn(buffer: &mut [u8], window: Window) -> Window
     let to = window.to;
     let end = line_end(buffer, window.seen, to);
     if end < to {
-        answer(&mut buffer[from..end], window.cut);
+        let said = answer(&mut buffer[from..end], window.cut);
         return Window {
             from: end + 1,
             seen: end + 1,
             to: to,
             cut: false,
-            ended: false,
+            ended: !said,
         };
     }
     if 0 < from {

@@ -1,4 +1,5 @@
 // The command run: what it asks for, and the tables that it lends.
+ghost use Prim.Native.Nat.{_≤_};
 use protocol::answers;
 use protocol::hex;
 use protocol::hex::Decoded;
@@ -34,6 +35,15 @@ enum Called {
     Bad,
 }
 
+// A length, of which a table is no longer than so many.
+fn at_most(length: u32, most: usize) -> usize
+    ensures { λ r. ⌜ r ≤ most ⌝ }
+{
+    let n = length as usize;
+    if n < most { n } else { most }
+}
+
+// A run uses 65,535 entries of a table at most, so longer tables than these are lent in part.
 fn read_sizes(line: &[u8], words: Words) -> Sized {
     let Number::Of(cells) = words::number_at(line, words, 5) else {
         return Sized::Bad;
@@ -48,9 +58,9 @@ fn read_sizes(line: &[u8], words: Words) -> Sized {
         return Sized::Bad;
     };
     Sized::By(Sizes {
-        cells: cells as usize,
-        stack: stack as usize,
-        frames: 3 * (frames as usize),
+        cells: at_most(cells, 700000),
+        stack: at_most(stack, 80000),
+        frames: 3 * at_most(frames, 70000),
         out: out as usize,
     })
 }

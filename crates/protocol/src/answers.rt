@@ -1,4 +1,4 @@
-// The answer lines.
+// The answers, each without its line's end.
 use crate::hex;
 use crate::lent;
 use crate::lent::Left;
@@ -20,12 +20,12 @@ fn number(n: u64) {
 }
 
 pub fn bad_command() {
-    text(b"bad command\n");
+    text(b"bad command");
 }
 
 // A call wrote where it must not, or left tables half cleared.
 fn wrong() {
-    text(b"tables wrong\n");
+    text(b"tables wrong");
 }
 
 fn refused(reason: Reason) {
@@ -39,7 +39,10 @@ fn refused(reason: Reason) {
 pub fn checked(verdict: Verdict) {
     let mut line = [0u8; 72];
     let n = write_verdict(verdict, &mut line);
-    text(&line[..n]);
+    if 0 < n {
+        let end = n - 1;
+        text(&line[0..end]);
+    }
 }
 
 fn length(answer: Length) -> usize {
@@ -67,7 +70,6 @@ pub fn wrote(name: &[u8], answer: Length, out: &[u8]) {
         }
         Length::Refused(reason) => refused(reason),
     }
-    text(b"\n");
 }
 
 fn result_length(ending: Ending) -> usize {
@@ -90,7 +92,6 @@ fn ended(answer: Answer, result: &[u8], begun: u64) {
     }
     number(answer.steps as u64);
     number(begun);
-    text(b"\n");
 }
 
 // The answer of run, with what it left in its tables and wrote to the output.
