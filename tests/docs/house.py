@@ -13,14 +13,14 @@ def wanted():
 
 def main():
     text = open('docs/ARCHITECTURE.md', encoding='utf-8').read()
-    rows = {m[2]: (int(m[1]), set(m[3].split())) for m in re.finditer(r'^\| (\d) \| `(\w+)` \| .* \| ?([\w ]*) ?\|$', text, re.M)}
+    rows = {m[2]: (int(m[1]), set(m[3].split())) for m in re.finditer(r'^\| (\d+) \| `(\w+)` \| .* \| ?([\w ]*) ?\|$', text, re.M)}
     sections = {part.split('`')[0]: part for part in text.split('\n### `')[1:]}
     bad = []
     for crate, uses in wanted():
         floor, said = rows.get(crate, (0, None))
         if said != uses:
             bad.append('%s uses %s' % (crate, ' '.join(sorted(uses))))
-        bad += ['%s stands no higher than %s' % (crate, below) for below in uses if rows.get(below, (9,))[0] >= floor]
+        bad += ['%s stands no higher than %s' % (crate, below) for below in uses if rows.get(below, (99,))[0] >= floor]
         files = {path.split('/', 2)[2] for kind in ('src/*.rt', 'specs/*.antt', 'proofs/*.antt') for path in glob.glob('crates/%s/%s' % (crate, kind))}
         files = {path for path in files if not path.endswith('Lib.antt')}
         listed = set(re.findall(r'^\| `(\S+)` \|', sections.get(crate, ''), re.M))

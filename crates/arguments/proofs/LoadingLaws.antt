@@ -14,14 +14,14 @@ use lib.Dec.{leb, eqb}
 use borrow.Author.Tests.{leb-true}
 use Rattle.rules.specs.Base.{refusal, passed, require, orRefuse}
 use Rattle.rules.specs.Heap.{Heap, cell, allocatedFor}
-use Rattle.rules.specs.Prefix.{readByte, readBytes, arityOf}
+use Rattle.rules.specs.Prefix.{arity, readByte, readBytes, arityOf}
 use Rattle.rules.specs.Program.{Constructor, Program, constructor}
 use Rattle.rules.proofs.ListLaws.{at-less}
 use Rattle.rules.proofs.TriedLaws.{bind-found, found-some, required}
 use Rattle.store.specs.Cells.{refs, constructorIn, heapIn, CellPut}
 use Rattle.store.proofs.RefLaws.{length-refs, refs-same, refs-append, put-one}
 use Rattle.store.proofs.CellLaws.{heap-length, heap-put, constructor-kept, cell-put-kept, cells-kept-refl, cells-kept-trans}
-use Rattle.arguments.specs.Loading.{arity, Loading, MadeFrom, MadeFor}
+use Rattle.arguments.specs.Loading.{Loading, MadeFrom, MadeFor}
 
 ---- The bytes
 

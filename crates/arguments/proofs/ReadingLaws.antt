@@ -1,5 +1,5 @@
 -- Laws of the argument check: what each byte leaves to be read, and what is left of the whole check.
-use Prim.Native.Nat.{ℕ, suc, _+_, _-_, _≤_, _<_}
+use Prim.Native.Nat.{ℕ, _+_, _-_, _≤_, _<_}
 use mathlib.Core.Path.{_≡_, sym, ap, _∙_, subst, refl}
 use mathlib.Core.List.{List, [], _∷_, _++_, append-assoc, append-nil}
 use mathlib.Core.Option.{none, some}
@@ -19,18 +19,11 @@ use Rattle.rules.specs.Records.{programIn, headerRight}
 use Rattle.rules.specs.There.{RecordsThere}
 use Rattle.rules.specs.Established.{Parsed}
 use Rattle.rules.specs.Prefix.{readByte, readBytes, argumentsRight}
-use Rattle.rules.proofs.ListLaws.{and-left, and-right}
+use Rattle.rules.proofs.ListLaws.{and-left, and-right, sets-append}
 use Rattle.rules.proofs.NumberedLaws.{numbered-at, numbered-past}
 use Rattle.rules.proofs.RecordLaws.{arguments-length, records-there}
 use Rattle.arguments.specs.Reading.{HeadThere, ReadsByte}
 use native.Mathlib.Nat.{add-zero, zero-add}
-
--- numbers stored one list after the other
-sets-append : (l : List ℕ) (i : ℕ) (vs ws : List ℕ) → sets l i (vs ++ ws) ≡ sets (sets l i vs) (i + length vs) ws
-sets-append l i [] ws = rw add-zero
-sets-append l i (v ∷ vs) ws =
-    let e : suc i + length vs ≡ i + suc (length vs) = omega arith in
-    sets-append (set l i v) (suc i) vs ws ∙ ap (λ (k : ℕ). sets (sets (set l i v) (suc i) vs) k ws) e
 
 ---- Putting types
 

@@ -5,13 +5,9 @@ use Prim.Native.Nat.{ℕ, _-_, _≤_, _<_}
 use lib.ListN.{length, getD, drop}
 use Rattle.rules.specs.Base.{passed}
 use Rattle.rules.specs.Heap.{allocatedFor}
-use Rattle.rules.specs.Prefix.{readBytes, arityOf}
-use Rattle.rules.specs.Program.{Program, constructor}
+use Rattle.rules.specs.Prefix.{arity, readBytes}
+use Rattle.rules.specs.Program.{Program}
 use Rattle.store.specs.Cells.{refs, constructorIn, heapIn, CellsKept}
-
--- how many arguments constructor c of a program has
-abbrev pub arity : Program → ℕ → ℕ
-arity s c = arityOf (constructor s c)
 
 -- the bytes passed the check for these parameters, and the index has the arities of the program's constructors
 pub record Loading (s : Program) (index bytes : List ℕ) : Type 0 where

@@ -1,7 +1,7 @@
 // The arguments' cells.
+use fetch::constructor_arity;
 use readers::wide;
 use store::put_cell;
-use store::wide32;
 ghost use Prim.Native.Nat.{_≤_};
 ghost use lib.ListN.{length};
 ghost use Rattle.rules.specs.Program.{Program};
@@ -28,7 +28,7 @@ pub fn make_arguments(index: &[u32; 128], bytes: &[u8], cells: &mut [u16]) -> Pe
     while 0 < i {
         i -= 1;
         let c = wide(bytes[i]);
-        let n = wide32(index[c]);
+        let n = constructor_arity(index, c);
         put_cell(cells, used, c as u16, &numbers, at, n);
         at = at + n - 1;
         numbers[at] = used as u16;

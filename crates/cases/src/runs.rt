@@ -9,7 +9,7 @@ use protocol::words::Number;
 use protocol::words::Span;
 use protocol::words::Words;
 
-// The lengths of the lent tables and output.
+// The lengths of the lent tables and output, and the number of frames.
 struct Sizes {
     cells: usize,
     stack: usize,
@@ -60,7 +60,7 @@ fn read_sizes(line: &[u8], words: Words) -> Sized {
     Sized::By(Sizes {
         cells: at_most(cells, 700000),
         stack: at_most(stack, 80000),
-        frames: 3 * at_most(frames, 70000),
+        frames: frames as usize,
         out: out as usize,
     })
 }
@@ -91,108 +91,86 @@ fn run(
     call: Call,
     cells: &mut [u16],
     stack: &mut [u16],
-    frames: &mut [u16],
+    frames: usize,
     out: &mut [u8],
 ) {
-    let answer = interpreter::run(
+    let arguments = words::part(line, call.arguments);
+    let answer = lending::run_here(
         words::part(line, call.file),
         call.entry,
-        words::part(line, call.arguments),
+        arguments,
         call.budget,
         cells,
         stack,
         frames,
         out,
     );
-    answers::ran(answer, lent::found(cells, stack, frames), out);
+    answers::ran(
+        answer,
+        lent::found(cells, stack),
+        arguments.len(),
+        frames,
+        out,
+    );
 }
 
-// A run in the fronts of these tables. False, and nothing is done, where one is too short.
+// A number, of which no more than so many.
+fn least(n: usize, most: usize) -> usize
+    ensures { λ r. ⌜ r ≤ most ⌝ }
+{
+    if n < most { n } else { most }
+}
+
+// A run in the fronts of these tables, which are long enough. It has no way out before the run: in front of a large frame LLVM moves
+// such a way before the function's prologue, whose stack probe then overwrites a register that is in use.
 fn run_in(
     line: &[u8],
     call: Call,
     sizes: Sizes,
     cells: &mut [u16],
     stack: &mut [u16],
-    frames: &mut [u16],
     out: &mut [u8],
-) -> bool {
-    let cell_count = sizes.cells;
-    let stack_count = sizes.stack;
-    let frame_count = sizes.frames;
-    let out_count = sizes.out;
-    if cells.len() < cell_count {
-        return false;
-    }
-    if stack.len() < stack_count {
-        return false;
-    }
-    if frames.len() < frame_count {
-        return false;
-    }
-    if out.len() < out_count {
-        return false;
-    }
+) {
+    let cell_count = least(sizes.cells, cells.len());
+    let stack_count = least(sizes.stack, stack.len());
+    let out_count = least(sizes.out, out.len());
     run(
         line,
         call,
         &mut cells[0..cell_count],
         &mut stack[0..stack_count],
-        &mut frames[0..frame_count],
+        sizes.frames,
         &mut out[0..out_count],
     );
-    true
 }
 
 // The tables stand on the native stack, most of which the writing of a deep result takes. So there are three sizes of them: for
-// most calls; 65,535 cells with few frames, which leaves room for a result of 65,535 levels; and the longest.
+// most calls; 65,535 cells with a short stack, which leaves room for a result of 65,535 levels; and the longest.
 
-fn run_small(line: &[u8], call: Call, sizes: Sizes) -> bool {
+fn run_small(line: &[u8], call: Call, sizes: Sizes) {
     let mut cells = [lent::NUMBER; 4096];
     let mut stack = [lent::NUMBER; 1024];
-    let mut frames = [lent::NUMBER; 768];
     let mut out = [lent::BYTE; 4096];
-    run_in(
-        line,
-        call,
-        sizes,
-        &mut cells,
-        &mut stack,
-        &mut frames,
-        &mut out,
-    )
+    run_in(line, call, sizes, &mut cells, &mut stack, &mut out);
 }
 
-fn run_deep(line: &[u8], call: Call, sizes: Sizes) -> bool {
+fn run_deep(line: &[u8], call: Call, sizes: Sizes) {
     let mut cells = [lent::NUMBER; 327680];
     let mut stack = [lent::NUMBER; 8192];
-    let mut frames = [lent::NUMBER; 12288];
     let mut out = [lent::BYTE; 70000];
-    run_in(
-        line,
-        call,
-        sizes,
-        &mut cells,
-        &mut stack,
-        &mut frames,
-        &mut out,
-    )
+    run_in(line, call, sizes, &mut cells, &mut stack, &mut out);
 }
 
-fn run_large(line: &[u8], call: Call, sizes: Sizes) -> bool {
+fn run_large(line: &[u8], call: Call, sizes: Sizes) {
     let mut cells = [lent::NUMBER; 700000];
     let mut stack = [lent::NUMBER; 80000];
-    let mut frames = [lent::NUMBER; 210000];
     let mut out = [lent::BYTE; 70000];
-    run_in(
-        line,
-        call,
-        sizes,
-        &mut cells,
-        &mut stack,
-        &mut frames,
-        &mut out,
-    )
+    run_in(line, call, sizes, &mut cells, &mut stack, &mut out);
+}
+
+// Whether tables of these lengths are long enough.
+fn fits(sizes: Sizes, cells: usize, stack: usize, out: usize) -> bool {
+    (sizes.cells <= cells) & (sizes.stack <= stack) & (sizes.out <= out)
 }
 
 // The smallest tables that are long enough, of the first so many sizes. A loop over the sizes would do, but then the compiler
@@ -205,12 +183,24 @@ fn run_within(line: &[u8], call: Call, sizes: Sizes, tries: usize) -> bool {
         return true;
     }
     if tries == 1 {
-        return run_small(line, call, sizes);
+        let small = fits(sizes, 4096, 1024, 4096);
+        if small {
+            run_small(line, call, sizes);
+        }
+        return small;
     }
     if tries == 2 {
-        return run_deep(line, call, sizes);
+        let deep = fits(sizes, 327680, 8192, 70000);
+        if deep {
+            run_deep(line, call, sizes);
+        }
+        return deep;
     }
-    run_large(line, call, sizes)
+    let large = fits(sizes, 700000, 80000, 70000);
+    if large {
+        run_large(line, call, sizes);
+    }
+    large
 }
 
 pub fn run_line(line: &mut [u8], words: Words) {

@@ -5,9 +5,9 @@ use mathlib.Core.List.{List, [], _∷_}
 use mathlib.Core.Option.{some}
 use native.Mathlib.Nat.{not-suc-le-zero, le-of-suc-le-suc}
 use lib.ListN.{length, getElem?}
-use Rattle.rules.specs.Prefix.{arityOf}
+use Rattle.rules.specs.Prefix.{arity, arityOf}
 use Rattle.rules.specs.Program.{Constructor, Function, Program, constructor, function}
-use Rattle.fetch.specs.Arities.{arity, inputs, inputsOf}
+use Rattle.fetch.specs.Arities.{inputs, inputsOf}
 
 pub get-some : {A : Type 0} (l : List A) (i : ℕ) → i < length l → (x : A) × (getElem? l i ≡ some x)
 get-some [] i h = absurd (not-suc-le-zero h)

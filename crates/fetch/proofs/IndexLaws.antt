@@ -18,14 +18,14 @@ use Rattle.rules.specs.Records.{constructorOffset, headOffset, codeOffset, inst
 use Rattle.rules.specs.There.{RecordsThere}
 use Rattle.rules.specs.Stacks.{slot}
 use Rattle.rules.specs.Machine.{current}
-use Rattle.rules.specs.Prefix.{arityOf}
+use Rattle.rules.specs.Prefix.{arity, arityOf}
 use Rattle.rules.proofs.ListLaws.{some-inj, and-left, and-right, none-some, at-less}
 use Rattle.rules.proofs.NumberedLaws.{numbered-length, numbered-at}
 use Rattle.rules.proofs.RecordLaws.{arguments-length, records-there}
 use Rattle.rules.proofs.MachineLaws.{bind-some}
 use Rattle.fetch.specs.Indexed.{Indexed, constructorArity, functionArity, codeAt}
 use Rattle.fetch.specs.Places.{StandsAt}
-use Rattle.fetch.specs.Arities.{arity, inputs, place, NumbersInRange}
+use Rattle.fetch.specs.Arities.{inputs, place, NumbersInRange}
 use Rattle.fetch.proofs.ArityLaws.{arity-is, inputs-is}
 use Rattle.fetch.proofs.PlaceLaws.{place-inside, place-offset, place-small}
 

@@ -37,9 +37,10 @@ pub behind-near : (at n : ℕ) → Inside at → at % 512 + 4 * n < 512 → Behi
 unfolding offsetAt Inside
 behind-near at n h l = record { inside = omega arith; is = omega arith }
 
--- wherever
-pub behind-far : (at n : ℕ) → Behind at n (placeOf (offsetAt at + 4 * n))
-behind-far at n = record { inside = place-inside (offsetAt at + 4 * n); is = place-offset (offsetAt at + 4 * n) }
+-- over the sums and marks of the blocks between
+pub behind-far : (at n : ℕ) → Inside at → Behind at n (at + 4 * n + 8 * ((at % 512 + 4 * n - 4) / 504))
+unfolding offsetAt Inside
+behind-far at n h = record { inside = omega arith; is = omega arith }
 
 -- the next one, over a sum and marks
 pub behind-over : (at : ℕ) → 504 < at % 512 → Behind at 1 (at + 12)

@@ -6,11 +6,8 @@ use Prim.Native.Nat.{ℕ, _≤_, _<_}
 use lib.ListN.{length}
 use Rattle.rules.specs.Machine.{Frame, current}
 use Rattle.rules.specs.declared.records.Instruction.{Instruction}
-use Rattle.rules.specs.Prefix.{arityOf}
-use Rattle.rules.specs.Program.{Function, Program, constructor, function}
-
-abbrev pub arity : Program → ℕ → ℕ
-arity s c = arityOf (constructor s c)
+use Rattle.rules.specs.Prefix.{arity}
+use Rattle.rules.specs.Program.{Function, Program, function}
 
 unfoldable pub inputsOf : Option Function → ℕ
 inputsOf none = 0

@@ -25,10 +25,11 @@ pub fn place_behind(from: usize, n: usize) -> usize
     requires { ⌜ Inside from × (from ≤ 33000) × (n ≤ 256) ⌝ }
     ensures { λ r. ⌜ Behind from n r × (r ≤ 40000) ⌝ }
 {
-    if from % 512 + 4 * n < 508 {
+    let inside = from % 512 + 4 * n;
+    if inside < 508 {
         return from + 4 * n;
     }
-    file_place(offset_at(from) + 4 * n)
+    from + 4 * n + 8 * ((inside - 4) / 504)
 }
 
 // For the crates above: the number of the instruction at a place, in the function whose first stands at another.

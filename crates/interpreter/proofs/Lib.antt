@@ -1,6 +1,3 @@
-pub mod FinishLaws
-pub mod BeginLaws
-pub mod LoadLaws
+pub mod SoundLaws
 pub mod RunningLaws
-pub mod CallLaws
 pub mod Promise

@@ -1,7 +1,7 @@
 -- Demand 3 for the code, from run's contract and the tally promise over the machine.
 use Rattle.rules.specs.Run.{run}
 use Rattle.rules.proofs.Promise.{tally-promise}
-use Rattle.interpreter.specs.Runs.{lentOf}
+use Rattle.start.specs.Runs.{lentOf}
 use Rattle.interpreter.specs.Promise.{RunPromise}
 
 pub run-promise : RunPromise

@@ -2,9 +2,9 @@
 use mathlib.Core.Path.{_≡_, refl, sym, ap, ap₂, _∙_, subst}
 use mathlib.Core.List.{List, [], _∷_}
 use mathlib.Core.Bool.{true}
-use Prim.Native.Nat.{ℕ, _*_, _-_, _/_, _≤_, min}
+use Prim.Native.Nat.{ℕ, _*_, _-_}
 use native.Mathlib.Omega.{arith}
-use lib.ListN.{length, length-append, length-replicate, length-drop}
+use lib.ListN.{length}
 use Rattle.rules.specs.declared.answers.Answer.{Answer}
 use Rattle.rules.specs.Base.{found}
 use Rattle.rules.specs.Heap.{Heap, HeapState, heapState, entered, stateOf, heapStart, Valid}
@@ -19,66 +19,43 @@ use Rattle.rules.specs.Run.{Tables, usable, Outcome, loaded}
 use Rattle.rules.proofs.CheckLaws.{accepted-checked}
 use Rattle.rules.proofs.HeapRun.{allocated-all}
 use Rattle.rules.proofs.RunLaws.{load-begins}
-use Rattle.store.specs.Frames.{framesIn}
+use Rattle.store.specs.Frames.{noFrame, framesIn}
 use Rattle.store.specs.Limits.{tables, LimitsOf, Wiped}
 use Rattle.store.specs.declared.frames.Frame.{Frame}
 use Rattle.store.specs.declared.limits.Limits.{Limits}
-use Rattle.store.proofs.CellLaws.{cells-kept-later, cells-kept-length, cells-kept-trans, room-less}
+use Rattle.store.proofs.CellLaws.{cells-kept-length, cells-kept-trans, cells-kept-later}
 use Rattle.store.proofs.FrameLaws.{frames-kept-length}
-use Rattle.store.proofs.LimitLaws.{limits-of, limits-kept, wiped-since}
+use Rattle.store.proofs.LimitLaws.{limits-kept, wiped-since, frames-since}
 use Rattle.store.proofs.RefLaws.{kept-trans, kept-later}
 use Rattle.fetch.specs.Indexed.{codeAt}
-use Rattle.fetch.proofs.IndexLaws.{constructor-read, code-stands}
+use Rattle.fetch.proofs.IndexLaws.{code-stands}
 use Rattle.steps.specs.Stands.{waitingOn, stateIn, Linked, SoundFrom, Laid, Standing, answersOn}
 use Rattle.machine.specs.Runs.{Begun, Ends, EndsAs}
 use Rattle.steps.specs.declared.state.Registers.{Registers}
-use Rattle.interpreter.specs.Parts.{Beginning, Loading, first, Loaded, Ended, Delivers}
-use Rattle.interpreter.specs.Runs.{lentOf, Runs}
-use Rattle.interpreter.proofs.BeginLaws.{values-length, all-fit, has-begun, start-sound}
-use Rattle.interpreter.proofs.CallLaws.{known-entry, few-inputs}
+use Rattle.start.specs.Begins.{Beginning, first, Loaded}
+use Rattle.start.specs.Runs.{lentOf, Runs}
+use Rattle.start.proofs.BeginLaws.{values-length, all-fit}
+use Rattle.start.proofs.CallLaws.{known-entry}
+use Rattle.start.proofs.LoadLaws.{cells-are, stack-is, frames-are, limits}
+use Rattle.delivery.specs.Delivers.{Ended, Delivers}
+use Rattle.interpreter.proofs.SoundLaws.{has-begun, start-sound}
 
-table-length : (n : ℕ) (l : List ℕ) → n ≤ length l → length (tableAfter true 0 n l) ≡ length l
-unfolding tableAfter
-table-length n l h = simp (length-append, length-replicate, length-drop) (omega arith)
-
-module _ {file index : List ℕ} {m : Limits} {entry n : ℕ} {arguments : List ℕ} {budget : ℕ} {cells stack frames out : List ℕ}
-    (b : Beginning file index m entry n arguments budget cells stack frames out) where
+module _ {file index : List ℕ} {m : Limits} {entry n : ℕ} {arguments : List ℕ} {budget : ℕ} {cells stack : List ℕ} {frames : List Frame}
+    {out : List ℕ} (b : Beginning file index m entry n arguments budget cells stack frames out) where
   abbrev s : Program
   s = programIn file
 
   abbrev f : Function
   f = b .callable .f
 
-  cells-are : m .cells ≡ min 65535 (length cells / 5)
-  cells-are = ap (λ (t : Tables). t .cells) (b .limited)
-
-  stack-is : m .stack ≡ min 65535 (length stack)
-  stack-is = ap (λ (t : Tables). t .stack) (b .limited)
-
-  frames-are : m .frames ≡ min 65535 (length frames / 3)
-  frames-are = ap (λ (t : Tables). t .frames) (b .limited)
-
-  limits : LimitsOf m cells stack frames
-  limits = limits-of m cells stack frames cells-are stack-is frames-are
-
-  pub loading : Loading (programIn file) index arguments cells stack n
-  loading = record {
-    f = f;
-    right = b .callable .right;
-    indexed = constructor-read file index (b .callable .indexed);
-    inputs = b .inputs;
-    few = omega (arith, b .inputs, few-inputs (b .callable));
-    slots = omega (arith, b .slots, limits .stack-room);
-    room = room-less cells (m .cells) (length arguments) (limits .cell-room) (b .room);
-  }
-
   -- the start fits the tables
   begins : loaded s (usable (lentOf cells stack frames out)) entry arguments ≡ found (start entry (values s arguments))
   begins =
       let k = values-length s f arguments (b .callable .right) in
       load-begins s (usable (lentOf cells stack frames out)) entry arguments f (b .callable .known) (b .callable .right)
-      (all-fit (usable (lentOf cells stack frames out)) entry (values s arguments) (length arguments) (omega (arith, b .frame, frames-are))
-      (omega (arith, b .slots, b .inputs, k, stack-is)) (omega (arith, b .room, cells-are)))
+      (all-fit (usable (lentOf cells stack frames out))
+      entry (values s arguments) (length arguments) (omega (arith, b .frame, frames-are b))
+      (omega (arith, b .slots, b .inputs, k, stack-is b)) (omega (arith, b .room, cells-are b)))
 
   -- what the run answers
   abbrev pub says : Outcome
@@ -128,14 +105,15 @@ module _ {file index : List ℕ} {m : Limits} {entry n : ℕ} {arguments : List 
 
     limits₁ : LimitsOf m cells₁ stack₁ frames
     limits₁ =
-        limits-kept m cells stack frames cells₁ stack₁ frames limits (cells-kept-length _ _ _ (l .kept-cells)) (l .kept-stack .len) refl
+        limits-kept m cells stack frames cells₁ stack₁ frames (limits b) (cells-kept-length _ _ _ (l .kept-cells)) (l .kept-stack .len) refl
 
     module _ {t : Registers} (q : t ≡ r) where
       pub begun : Begun file index m cells₁ stack₁ frames t
       unfolding framesIn
       begun = rw q (record { indexed = b .callable .indexed; limits = limits₁; going = refl; instruction = 1; standing = standing })
 
-      module _ {cells₂ stack₂ frames₂ : List ℕ} {u : Registers} (e : Ends file m cells₁ stack₁ frames t cells₂ stack₂ frames₂ u) where
+      module _ {cells₂ stack₂ : List ℕ} {frames₂ : List Frame} {u : Registers}
+          (e : Ends file m cells₁ stack₁ frames t cells₂ stack₂ frames₂ u) where
         ends : (i : ℕ) × (ws : List Frame) × EndsAs file m budget says cells₂ stack₂ u i ws
         unfolding framesIn
         ends =
@@ -169,26 +147,20 @@ module _ {file index : List ℕ} {m : Limits} {entry n : ℕ} {arguments : List 
               },
             )
 
-        module _ {cells₃ stack₃ frames₃ : List ℕ} (w : Wiped m cells₂ stack₂ frames₂ cells₃ stack₃ frames₃) where
-          since : Wiped m cells stack frames cells₃ stack₃ frames₃
+        module _ {cells₃ stack₃ : List ℕ} {frames₃ : List Frame} (w : Wiped m cells₂ stack₂ cells₃ stack₃)
+            (wf : frames₃ ≡ tableAfter true noFrame (m .frames) frames₂) where
+          since : Wiped m cells stack cells₃ stack₃
           since =
-              wiped-since m cells stack frames cells₂ stack₂ frames₂ cells₃ stack₃ frames₃
+              wiped-since m cells stack cells₂ stack₂ cells₃ stack₃
               (cells-kept-trans (m .cells) cells cells₁ cells₂ (cells-kept-later _ _ _ _ (b .room) (l .kept-cells)) (e .spared .of-cells))
-              (kept-trans (m .stack) stack stack₁ stack₂ (kept-later (b .slots) (l .kept-stack)) (e .spared .of-stack)) (e .spared-frames) w
+              (kept-trans (m .stack) stack stack₁ stack₂ (kept-later (b .slots) (l .kept-stack)) (e .spared .of-stack)) w
 
           pub runs : {out′ : List ℕ} {a : Answer} → Delivers says out out′ a
               → Runs file entry arguments budget cells stack frames out cells₃ stack₃ frames₃ out′ a
           runs d =
               has-begun file entry arguments budget cells stack frames out (accepted-checked (b .callable .accepted)) begins
               (ap (λ (x : Tables). continuedOn s x budget 0 (heapStart s entry arguments)) (sym (b .limited))) d
-              (since .of-cells ∙ ap (λ (k : ℕ). tableAfter true 0 (5 * k) cells) cells-are)
-              (since .of-stack ∙ ap (λ (k : ℕ). tableAfter true 0 k stack) stack-is)
-              (since .of-frames ∙ ap (λ (k : ℕ). tableAfter true 0 (3 * k) frames) frames-are)
-
-          -- wiping keeps the length
-          pub wiped-length : (length cells₃ ≡ length cells) × (length stack₃ ≡ length stack) × (length frames₃ ≡ length frames)
-          wiped-length = (
-            ap length (since .of-cells) ∙ table-length (5 * m .cells) cells (omega (arith, cells-are)),
-            ap length (since .of-stack) ∙ table-length (m .stack) stack (omega (arith, stack-is)),
-            ap length (since .of-frames) ∙ table-length (3 * m .frames) frames (omega (arith, frames-are)),
-          )
+              (since .of-cells ∙ ap (λ (k : ℕ). tableAfter true 0 (5 * k) cells) (cells-are b))
+              (since .of-stack ∙ ap (λ (k : ℕ). tableAfter true 0 k stack) (stack-is b))
+              (wf ∙ frames-since (m .frames) frames frames₂ (e .spared-frames)
+              ∙ ap (λ (k : ℕ). tableAfter true noFrame k frames) (frames-are b))

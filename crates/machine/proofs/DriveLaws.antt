@@ -45,13 +45,13 @@ settled-left (settles-spent d w n) = refl
 settled-left (settles-result e d w q) = refl
 
 -- what the tables lend the top frame
-lent-of : (m : Limits) (cells stack frames : List ℕ) → LimitsOf m cells stack frames → Lent m cells stack
+lent-of : (m : Limits) (cells stack : List ℕ) (frames : List Frame) → LimitsOf m cells stack frames → Lent m cells stack
 lent-of m cells stack frames l =
     record { cell-room = l .cell-room; few-cells = l .few-cells; stack-room = l .stack-room; few-places = l .few-places }
 
 -- the run has come so far
-pub record Drove (file : List ℕ) (m : Limits) (cells stack frames : List ℕ) (r : Registers) (cells′ stack′ frames′ : List ℕ) (t : Registers)
-    : Type 0 where
+pub record Drove (file : List ℕ) (m : Limits) (cells stack : List ℕ) (frames : List Frame) (r : Registers) (cells′ stack′ : List ℕ)
+    (frames′ : List Frame) (t : Registers) : Type 0 where
   pub spared : Spared m cells stack cells′ stack′
   pub spared-frames : FramesKept (m .frames) frames frames′
   pub fewer : t .left ≤ r .left
@@ -60,112 +60,113 @@ pub record Drove (file : List ℕ) (m : Limits) (cells stack frames : List ℕ) 
       → (i′ : ℕ) × LeadsTo file m budget cells stack r i (framesIn frames (r .depth)) cells′ stack′ t i′ (framesIn frames′ (t .depth))
       × ((t .why ≡ 0 → ⊥) → Rests file m budget cells′ stack′ t i′ (framesIn frames′ (t .depth)))
 
-module _ (file index : List ℕ) (m : Limits) (cells stack frames : List ℕ) (r : Registers) (begun : Begun file index m cells stack frames r)
-  where
-    pub drove-none : Drove file m cells stack frames r cells stack frames r
-    drove-none = record {
-      spared = record { of-cells = cells-kept-refl (m .cells) cells; of-stack = kept-refl (m .stack) stack };
-      spared-frames = frames-kept-refl (m .frames) frames;
-      fewer = omega arith;
-      over = λ n. absurd (n (begun .going));
-      leads = λ budget i fits ok. (i, record { standing = ok; fewer = omega arith; same = refl }, λ n. absurd (n (begun .going)));
+module _ (file index : List ℕ) (m : Limits) (cells stack : List ℕ) (frames : List Frame) (r : Registers)
+    (begun : Begun file index m cells stack frames r) where
+  pub drove-none : Drove file m cells stack frames r cells stack frames r
+  drove-none = record {
+    spared = record { of-cells = cells-kept-refl (m .cells) cells; of-stack = kept-refl (m .stack) stack };
+    spared-frames = frames-kept-refl (m .frames) frames;
+    fewer = omega arith;
+    over = λ n. absurd (n (begun .going));
+    leads = λ budget i fits ok. (i, record { standing = ok; fewer = omega arith; same = refl }, λ n. absurd (n (begun .going)));
+  }
+
+  module _ (cells₁ stack₁ : List ℕ) (frames₁ : List Frame) (r₁ : Registers)
+      (drove : Drove file m cells stack frames r cells₁ stack₁ frames₁ r₁) where
+    limits₁ : LimitsOf m cells₁ stack₁ frames₁
+    limits₁ =
+        limits-kept m cells stack frames cells₁ stack₁ frames₁ (begun .limits)
+        (cells-kept-length (m .cells) cells cells₁ (drove .spared .of-cells)) (drove .spared .of-stack .len)
+        (frames-kept-length (m .frames) frames frames₁ (drove .spared-frames))
+
+    -- where the run stands now
+    abbrev at₁ : ℕ
+    at₁ = drove .leads (r .left) (begun .instruction) (omega arith) (begun .standing) .0
+
+    stands₁ : Standing file m cells₁ stack₁ r₁ (drove .leads (r .left) (begun .instruction) (omega arith) (begun .standing) .0)
+        (framesIn frames₁ (r₁ .depth))
+    stands₁ = drove .leads (r .left) (begun .instruction) (omega arith) (begun .standing) .1 .standing
+
+    pub ready-now : r₁ .why ≡ 0 → Ready file index m cells₁ stack₁ r₁
+    ready-now e = record {
+      indexed = begun .indexed;
+      lent = lent-of m cells₁ stack₁ frames₁ limits₁;
+      going = e;
+      instruction = at₁;
+      waiting = framesIn frames₁ (r₁ .depth);
+      standing = stands₁;
     }
 
-    module _ (cells₁ stack₁ frames₁ : List ℕ) (r₁ : Registers) (drove : Drove file m cells stack frames r cells₁ stack₁ frames₁ r₁) where
-      limits₁ : LimitsOf m cells₁ stack₁ frames₁
-      limits₁ =
-          limits-kept m cells stack frames cells₁ stack₁ frames₁ (begun .limits)
-          (cells-kept-length (m .cells) cells cells₁ (drove .spared .of-cells)) (drove .spared .of-stack .len)
-          (frames-kept-length (m .frames) frames frames₁ (drove .spared-frames))
+    pub settled-ready : Verified file × Inside (r₁ .at) × (offsetAt (r₁ .at) + 4 ≤ length (payload file))
+    settled-ready = fetch-there file index (begun .indexed) m cells₁ stack₁ r₁ at₁ (framesIn frames₁ (r₁ .depth)) stands₁
 
-      -- where the run stands now
-      abbrev at₁ : ℕ
-      at₁ = drove .leads (r .left) (begun .instruction) (omega arith) (begun .standing) .0
+    -- the run is at its end
+    pub drove-ends : (r₁ .why ≡ 0 → ⊥) → {t : Registers} → Settles (payload file) r₁ t → t .left ≡ r₁ .left
+        → Ends file m cells stack frames r cells₁ stack₁ frames₁ t
+    drove-ends n {t} settles same-left = record {
+      spared = drove .spared;
+      spared-frames = drove .spared-frames;
+      fewer = omega (arith, drove .fewer);
+      ends = λ budget i fits ok.
+          let x = drove .leads budget i fits ok in (
+            x .0,
+            framesIn frames₁ (r₁ .depth),
+            settled-ends file index (begun .indexed) m budget _ cells₁ stack₁ r₁ (x .0) (framesIn frames₁ (r₁ .depth)) (x .1 .standing)
+                (frames-length frames₁ (r₁ .depth)) (omega (arith, drove .fewer)) (x .2 n) (drove .over n) (x .1 .same) settles,
+          );
+    }
 
-      stands₁ : Standing file m cells₁ stack₁ r₁ (drove .leads (r .left) (begun .instruction) (omega arith) (begun .standing) .0)
-          (framesIn frames₁ (r₁ .depth))
-      stands₁ = drove .leads (r .left) (begun .instruction) (omega arith) (begun .standing) .1 .standing
+    module _ (cells₂ stack₂ : List ℕ) (t : Registers) (pauses : Pauses file m cells₁ stack₁ r₁ cells₂ stack₂ t) where
+      limits₂ : LimitsOf m cells₂ stack₂ frames₁
+      limits₂ =
+          limits-kept m cells₁ stack₁ frames₁ cells₂ stack₂ frames₁ limits₁
+          (cells-kept-length (m .cells) cells₁ cells₂ (pauses .spared .of-cells)) (pauses .spared .of-stack .len) refl
 
-      pub ready-now : r₁ .why ≡ 0 → Ready file index m cells₁ stack₁ r₁
-      ready-now e = record {
-        indexed = begun .indexed;
-        lent = lent-of m cells₁ stack₁ frames₁ limits₁;
-        going = e;
-        instruction = at₁;
-        waiting = framesIn frames₁ (r₁ .depth);
-        standing = stands₁;
-      }
+      abbrev ws₁ : List Frame
+      ws₁ = framesIn frames₁ (r₁ .depth)
 
-      pub settled-ready : Verified file × Inside (r₁ .at) × (offsetAt (r₁ .at) + 4 ≤ length (payload file))
-      settled-ready = fetch-there file index (begun .indexed) m cells₁ stack₁ r₁ at₁ (framesIn frames₁ (r₁ .depth)) stands₁
+      -- the frames that wait are those of the table, before and after
+      same-frames : {j : ℕ} → Standing file m cells₂ stack₂ t j (framesIn frames₁ (r₁ .depth))
+          → framesIn frames₁ (r₁ .depth) ≡ framesIn frames₁ (t .depth)
+      same-frames on = ap (framesIn frames₁) (sym (frames-length frames₁ (r₁ .depth)) ∙ on .laid .depth)
 
-      -- the run is at its end
-      pub drove-ends : (r₁ .why ≡ 0 → ⊥) → {t : Registers} → Settles (payload file) r₁ t → t .left ≡ r₁ .left
-          → Ends file m cells stack frames r cells₁ stack₁ frames₁ t
-      drove-ends n {t} settles same-left = record {
-        spared = drove .spared;
-        spared-frames = drove .spared-frames;
-        fewer = omega (arith, drove .fewer);
-        ends = λ budget i fits ok.
-            let x = drove .leads budget i fits ok in (
-              x .0,
-              framesIn frames₁ (r₁ .depth),
-              settled-ends file index (begun .indexed) m budget _ cells₁ stack₁ r₁ (x .0) (framesIn frames₁ (r₁ .depth)) (x .1 .standing)
-                  (frames-length frames₁ (r₁ .depth)) (omega (arith, drove .fewer)) (x .2 n) (drove .over n) (x .1 .same) settles,
-            );
-      }
-
-      module _ (cells₂ stack₂ : List ℕ) (t : Registers) (pauses : Pauses file m cells₁ stack₁ r₁ cells₂ stack₂ t) where
-        limits₂ : LimitsOf m cells₂ stack₂ frames₁
-        limits₂ =
-            limits-kept m cells₁ stack₁ frames₁ cells₂ stack₂ frames₁ limits₁
-            (cells-kept-length (m .cells) cells₁ cells₂ (pauses .spared .of-cells)) (pauses .spared .of-stack .len) refl
-
-        abbrev ws₁ : List Frame
-        ws₁ = framesIn frames₁ (r₁ .depth)
-
-        -- the frames that wait are those of the table, before and after
-        same-frames : {j : ℕ} → Standing file m cells₂ stack₂ t j (framesIn frames₁ (r₁ .depth))
-            → framesIn frames₁ (r₁ .depth) ≡ framesIn frames₁ (t .depth)
-        same-frames on = ap (framesIn frames₁) (sym (frames-length frames₁ (r₁ .depth)) ∙ on .laid .depth)
-
-        pub rested-now : Rested file index m cells₂ stack₂ frames₁ t
-        rested-now =
-            let x = pauses .leads (r₁ .left) at₁ ws₁ (omega arith) stands₁ in
-            let e = same-frames (x .1 .standing) in
-            record {
-              indexed = begun .indexed;
-              limits = limits₂;
-              rest = pauses .rest;
-              budget = r₁ .left;
-              instruction = x .0;
-              standing = subst (λ (vs : List Frame). Standing file m cells₂ stack₂ t (x .0) vs) e (x .1 .standing);
-              rests = subst (λ (vs : List Frame). Rests file m (r₁ .left) cells₂ stack₂ t (x .0) vs) e (x .2);
-            }
-
-        module _ (stack₃ frames₃ : List ℕ) (t₃ : Registers)
-            (turns-to : (f cs : List ℕ) → Rested f index m cs stack₂ frames₁ t → Turned f m cs stack₂ frames₁ t stack₃ frames₃ t₃) where
-          turned : Turned file m cells₂ stack₂ frames₁ t stack₃ frames₃ t₃
-          turned = turns-to file cells₂ rested-now
-
-          pub turn-less : r₁ .why ≡ 0 → turns (t₃ .why) (t₃ .left) < turns (r₁ .why) (r₁ .left)
-          turn-less e = turns-less (r₁ .why) (r₁ .left) (t₃ .why) (t₃ .left) e (λ z. omega (arith, turned .less z, pauses .fewer))
-
-          pub drove-more : Drove file m cells stack frames r cells₂ stack₃ frames₃ t₃
-          drove-more = record {
-            spared = spared-trans m cells stack cells₂ stack₂ cells₂ stack₃
-                (spared-trans m cells stack cells₁ stack₁ cells₂ stack₂ (drove .spared) (pauses .spared))
-                (record { of-cells = cells-kept-refl (m .cells) cells₂; of-stack = turned .spared-stack });
-            spared-frames = frames-kept-trans (m .frames) frames frames₁ frames₃ (drove .spared-frames) (turned .spared-frames);
-            fewer = omega (arith, drove .fewer, pauses .fewer, turned .fewer);
-            over = turned .over;
-            leads = λ budget i fits ok.
-                let x = drove .leads budget i fits ok in
-                let y = pauses .leads budget (x .0) ws₁ (omega (arith, drove .fewer)) (x .1 .standing) in
-                let e = same-frames (y .1 .standing) in
-                let here = subst (λ (vs : List Frame). LeadsTo file m budget cells₁ stack₁ r₁ (x .0) ws₁ cells₂ stack₂ t (y .0) vs) e
-                (y .1) in
-                let z = turned .leads budget (y .0) (omega (arith, drove .fewer, pauses .fewer)) (here .standing)
-                (subst (λ (vs : List Frame). Rests file m budget cells₂ stack₂ t (y .0) vs) e (y .2)) in
-                (z .0, leads-trans (leads-trans (x .1) here) (z .1), z .2);
+      pub rested-now : Rested file index m cells₂ stack₂ frames₁ t
+      rested-now =
+          let x = pauses .leads (r₁ .left) at₁ ws₁ (omega arith) stands₁ in
+          let e = same-frames (x .1 .standing) in
+          record {
+            indexed = begun .indexed;
+            limits = limits₂;
+            rest = pauses .rest;
+            budget = r₁ .left;
+            instruction = x .0;
+            standing = subst (λ (vs : List Frame). Standing file m cells₂ stack₂ t (x .0) vs) e (x .1 .standing);
+            rests = subst (λ (vs : List Frame). Rests file m (r₁ .left) cells₂ stack₂ t (x .0) vs) e (x .2);
           }
+
+      module _ (stack₃ : List ℕ) (frames₃ : List Frame) (t₃ : Registers)
+          (turns-to : (f cs : List ℕ) → Rested f index m cs stack₂ frames₁ t → Turned f m cs stack₂ frames₁ t stack₃ frames₃ t₃) where
+        turned : Turned file m cells₂ stack₂ frames₁ t stack₃ frames₃ t₃
+        turned = turns-to file cells₂ rested-now
+
+        pub turn-less : r₁ .why ≡ 0 → turns (t₃ .why) (t₃ .left) < turns (r₁ .why) (r₁ .left)
+        turn-less e = turns-less (r₁ .why) (r₁ .left) (t₃ .why) (t₃ .left) e (λ z. omega (arith, turned .less z, pauses .fewer))
+
+        pub drove-more : Drove file m cells stack frames r cells₂ stack₃ frames₃ t₃
+        drove-more = record {
+          spared = spared-trans m cells stack cells₂ stack₂ cells₂ stack₃
+              (spared-trans m cells stack cells₁ stack₁ cells₂ stack₂ (drove .spared) (pauses .spared))
+              (record { of-cells = cells-kept-refl (m .cells) cells₂; of-stack = turned .spared-stack });
+          spared-frames = frames-kept-trans (m .frames) frames frames₁ frames₃ (drove .spared-frames) (turned .spared-frames);
+          fewer = omega (arith, drove .fewer, pauses .fewer, turned .fewer);
+          over = turned .over;
+          leads = λ budget i fits ok.
+              let x = drove .leads budget i fits ok in
+              let y = pauses .leads budget (x .0) ws₁ (omega (arith, drove .fewer)) (x .1 .standing) in
+              let e = same-frames (y .1 .standing) in
+              let here = subst (λ (vs : List Frame). LeadsTo file m budget cells₁ stack₁ r₁ (x .0) ws₁ cells₂ stack₂ t (y .0) vs) e
+              (y .1) in
+              let z = turned .leads budget (y .0) (omega (arith, drove .fewer, pauses .fewer)) (here .standing)
+              (subst (λ (vs : List Frame). Rests file m budget cells₂ stack₂ t (y .0) vs) e (y .2)) in
+              (z .0, leads-trans (leads-trans (x .1) here) (z .1), z .2);
+        }

@@ -13,7 +13,7 @@ use Rattle.rules.specs.Container.{payload}
 use Rattle.rules.specs.Heap.{Heap, HeapFrame, HeapState, heapState, valueOf, frameOf, stateOf, executeOn, heapStep}
 use Rattle.rules.specs.HeapRun.{endOn, resultOn, continuedOn}
 use Rattle.rules.specs.Machine.{Frame as Framed, current, returned, resultOf, top}
-use Rattle.rules.specs.Prefix.{written}
+use Rattle.rules.specs.Prefix.{arity, written}
 use Rattle.rules.specs.Program.{Program}
 use Rattle.rules.specs.Records.{programIn}
 use Rattle.rules.specs.Run.{Outcome, answer, finished, aborted, refusedWith}
@@ -29,7 +29,7 @@ use Rattle.store.specs.declared.frames.Frame.{Frame}
 use Rattle.store.specs.declared.limits.Limits.{Limits}
 use Rattle.store.proofs.RefLaws.{refs-top}
 use Rattle.store.proofs.CellLaws.{heap-length}
-use Rattle.fetch.specs.Arities.{arity, place}
+use Rattle.fetch.specs.Arities.{place}
 use Rattle.fetch.specs.Indexed.{Indexed}
 use Rattle.fetch.specs.Places.{offsetAt}
 use Rattle.fetch.specs.Words.{WordThere}

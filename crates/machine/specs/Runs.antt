@@ -5,7 +5,7 @@ use Prim.Native.Nat.{ℕ, suc, _-_, _≤_, _<_}
 use lib.ListN.{length}
 use Rattle.rules.specs.Base.{refusal}
 use Rattle.rules.specs.Heap.{valueOf}
-use Rattle.rules.specs.Prefix.{written}
+use Rattle.rules.specs.Prefix.{arity, written}
 use Rattle.rules.specs.Records.{programIn}
 use Rattle.rules.specs.Run.{Outcome, answer, finished, aborted, refusedWith}
 use Rattle.store.specs.Cells.{heapIn}
@@ -13,7 +13,6 @@ use Rattle.store.specs.Frames.{framesIn, FramesKept}
 use Rattle.store.specs.Limits.{LimitsOf}
 use Rattle.store.specs.declared.frames.Frame.{Frame}
 use Rattle.store.specs.declared.limits.Limits.{Limits}
-use Rattle.fetch.specs.Arities.{arity}
 use Rattle.fetch.specs.Indexed.{Indexed}
 use Rattle.steps.specs.Stands.{Standing, Spared, answersOn}
 use Rattle.steps.specs.Steps.{topCell}
@@ -32,7 +31,7 @@ pub record EndsAs (file : List ℕ) (m : Limits) (budget : ℕ) (said : Outcome)
       → (14 ≤ t .why) × (t .why ≤ 17) × (said ≡ answer (refusedWith (refusal (t .why) (t .function) i)) (budget - t .left))
 
 -- the run stands on tables
-pub record Begun (file index : List ℕ) (m : Limits) (cells stack frames : List ℕ) (r : Registers) : Type 0 where
+pub record Begun (file index : List ℕ) (m : Limits) (cells stack : List ℕ) (frames : List Frame) (r : Registers) : Type 0 where
   pub indexed : Indexed file index
   pub limits : LimitsOf m cells stack frames
   pub going : r .why ≡ 0
@@ -40,8 +39,8 @@ pub record Begun (file index : List ℕ) (m : Limits) (cells stack frames : List
   pub standing : Standing file m cells stack r instruction (framesIn frames (r .depth))
 
 -- the whole run
-pub record Ends (file : List ℕ) (m : Limits) (cells stack frames : List ℕ) (r : Registers) (cells′ stack′ frames′ : List ℕ) (t : Registers)
-    : Type 0 where
+pub record Ends (file : List ℕ) (m : Limits) (cells stack : List ℕ) (frames : List Frame) (r : Registers) (cells′ stack′ : List ℕ)
+    (frames′ : List Frame) (t : Registers) : Type 0 where
   pub spared : Spared m cells stack cells′ stack′
   pub spared-frames : FramesKept (m .frames) frames frames′
   pub fewer : t .left ≤ r .left

@@ -64,7 +64,7 @@ pub data Leaves (stack : List ℕ) (r : Registers) (w : Frame) (n code : ℕ) : 
 ---- What a frame that rests gives way to
 
 -- a frame that rests, above the frames of the table
-pub record Rested (file index : List ℕ) (m : Limits) (cells stack frames : List ℕ) (r : Registers) : Type 0 where
+pub record Rested (file index : List ℕ) (m : Limits) (cells stack : List ℕ) (frames : List Frame) (r : Registers) : Type 0 where
   pub indexed : Indexed file index
   pub limits : LimitsOf m cells stack frames
   pub rest : r .why ≡ 0 → ⊥
@@ -74,8 +74,8 @@ pub record Rested (file index : List ℕ) (m : Limits) (cells stack frames : Lis
   pub rests : Rests file m budget cells stack r instruction (framesIn frames (r .depth))
 
 -- it has given way to another frame, or the run is at its end
-pub record Turned (file : List ℕ) (m : Limits) (cells stack frames : List ℕ) (r : Registers) (stack′ frames′ : List ℕ) (t : Registers)
-    : Type 0 where
+pub record Turned (file : List ℕ) (m : Limits) (cells stack : List ℕ) (frames : List Frame) (r : Registers) (stack′ : List ℕ)
+    (frames′ : List Frame) (t : Registers) : Type 0 where
   pub spared-stack : KeptFrom (m .stack) stack stack′
   pub spared-frames : FramesKept (m .frames) frames frames′
   pub fewer : t .left ≤ r .left
@@ -85,6 +85,11 @@ pub record Turned (file : List ℕ) (m : Limits) (cells stack frames : List ℕ)
       → Rests file m budget cells stack r i (framesIn frames (r .depth))
       → (i′ : ℕ) × LeadsTo file m budget cells stack r i (framesIn frames (r .depth)) cells stack′ t i′ (framesIn frames′ (t .depth))
       × ((t .why ≡ 0 → ⊥) → Rests file m budget cells stack′ t i′ (framesIn frames′ (t .depth)))
+
+-- a return that no frame waits for is the result, any other end stays
+pub data Over (r : Registers) : Registers → Type 0 where
+  over-other : (r .why ≡ 2 → ⊥) → Over r r
+  over-result : r .why ≡ 2 → Over r (resting r 3)
 
 -- a return in the only frame is still the result where no step is left
 pub data Settles (bytes : List ℕ) (r : Registers) : Registers → Type 0 where

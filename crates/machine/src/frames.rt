@@ -20,8 +20,8 @@ ghost use Rattle.machine.specs.Turns.{waitingFor, Enters, Leaves};
 
 // The top frame as it waits at a call.
 pub fn waiting(r: Registers) -> Frame
-    requires { ⌜ Inside (r .code) × Inside (r .at) × (r .code ≤ 40000) × (r .at ≤ 40000) × (offsetAt (r .code) ≤ offsetAt (r .at)) ⌝ }
-    requires { ⌜ (r .function < 32) × (r .base ≤ r .top) × (r .top ≤ 65535) ⌝ }
+    requires { ⌜ (Inside (r .code) × Inside (r .at) × (r .code ≤ 40000) × (r .at ≤ 40000) × (offsetAt (r .code) ≤ offsetAt (r .at)))
+        × ((r .function < 32) × (r .base ≤ r .top) × (r .top ≤ 65535)) ⌝ }
     ensures { λ w. ⌜ w ≡ waitingFor r ((offsetAt (r .at) - offsetAt (r .code)) / 4 + 1) ⌝ }
 {
     Frame {
@@ -33,8 +33,8 @@ pub fn waiting(r: Registers) -> Frame
 
 // Call: above the frame comes the function that it calls, with copies of its arguments.
 pub fn enter(index: &[u32; 128], stack: &mut [u16], m: Limits, r: Registers) -> Registers
-    requires { ⌜ (r .callee < 32) × (functionArity (now index) (r .callee) ≤ 4) × (functionArity (now index) (r .callee) ≤ r .top) ⌝ }
-    requires { ⌜ (r .top ≤ m .stack) × (m .stack ≤ length (now stack)) × (m .stack ≤ 65535) × (r .depth < 65535) × (0 < r .left) ⌝ }
+    requires { ⌜ ((r .callee < 32) × (functionArity (now index) (r .callee) ≤ 4) × (functionArity (now index) (r .callee) ≤ r .top))
+        × ((r .top ≤ m .stack) × (m .stack ≤ length (now stack)) × (m .stack ≤ 65535) × (r .depth < 65535) × (0 < r .left)) ⌝ }
     ensures { λ t. ⌜ Enters m (now (stack .entry)) r (functionArity (now (index .entry)) (r .callee))
         (codeAt (now (index .entry)) (r .callee)) (now (stack .exit)) t ⌝ }
 {
@@ -66,11 +66,10 @@ pub fn enter(index: &[u32; 128], stack: &mut [u16], m: Limits, r: Registers) -> 
 
 // Return: the waiting frame goes on behind its call, and the call's arguments give way to the top value.
 pub fn leave(index: &[u32; 128], stack: &mut [u16], r: Registers, w: Frame) -> Registers
-    requires { ⌜ (r .function < 32) × (functionArity (now index) (r .function) ≤ r .base) × (r .base < r .top)
-        × (r .top ≤ length (now stack)) × (r .top ≤ 65535) ⌝ }
-    requires { ⌜ (w .function < 32) × (w .instruction ≤ 256) × (w .height ≤ r .base) × Inside (codeAt (now index) (w .function))
-        × (codeAt (now index) (w .function) ≤ 33000) ⌝ }
-    requires { ⌜ (0 < r .depth) × (0 < r .left) ⌝ }
+    requires { ⌜ ((r .function < 32) × (functionArity (now index) (r .function) ≤ r .base) × (r .base < r .top)
+        × (r .top ≤ length (now stack)) × (r .top ≤ 65535))
+        × ((w .function < 32) × (w .instruction ≤ 256) × (w .height ≤ r .base) × Inside (codeAt (now index) (w .function))
+        × (codeAt (now index) (w .function) ≤ 33000)) × ((0 < r .depth) × (0 < r .left)) ⌝ }
     ensures { λ t. ⌜ Leaves (now (stack .entry)) r w (functionArity (now (index .entry)) (r .function))
         (codeAt (now (index .entry)) (w .function)) (now (stack .exit)) t ⌝ }
 {

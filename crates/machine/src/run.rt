@@ -11,23 +11,57 @@ use steps::RETURNS;
 use steps::Registers;
 use steps::paused;
 use steps::straight;
+use store::Frame;
 use store::Limits;
 use store::frame_at;
 use store::put_frame;
+ghost use mathlib.Core.Path.{_≡_};
+ghost use mathlib.Core.Bool.{true, false};
 ghost use mathlib.Core.List.{List};
-ghost use Prim.Native.Nat.{ℕ, _+_, _≤_};
+ghost use Prim.Native.Nat.{ℕ, _+_, _-_, _≤_};
 ghost use lib.ListN.{length};
 ghost use Rattle.rules.specs.Container.{payload};
 ghost use Rattle.rules.specs.Established.{Verified};
 ghost use Rattle.fetch.specs.Places.{offsetAt, Inside};
-ghost use Rattle.machine.specs.Turns.{Rested, Turned, Settles};
+ghost use Rattle.machine.specs.Turns.{Rested, Over, Turned, Settles};
 ghost use Rattle.machine.specs.Runs.{Begun, Ends};
 
-// A frame that rests at a call or a return gives way to another; any other end stays.
+// Whether it rests at a return to a frame that waits.
+fn goes_back(r: Registers) -> bool
+    ensures { λ b. ⌜ (b ≡ true → (r .why ≡ 2) × (r .depth ≡ 0 → ⊥)) × (b ≡ false → r .why ≡ 2 → r .depth ≡ 0) ⌝ }
+{
+    if r.why != RETURNS {
+        return false;
+    }
+    if r.depth == 0 {
+        return false;
+    }
+    true
+}
+
+// The place of the uppermost frame that waits.
+fn below(r: Registers) -> usize
+    requires { ⌜ (r .depth ≡ 0 → ⊥) ⌝ }
+    ensures { λ k. ⌜ k ≡ r .depth - 1 ⌝ }
+{
+    r.depth - 1
+}
+
+// A return with no frame to go back to is the result; any other end stays.
+fn over(r: Registers) -> Registers
+    ensures { λ t. ⌜ Over r t ⌝ }
+{
+    if r.why != RETURNS {
+        return r;
+    }
+    paused(r, RESULT)
+}
+
+// A frame that rests at a call or a return gives way to another. Proved by hand, since it holds the table.
 fn turn(
     index: &[u32; 128],
     stack: &mut [u16],
-    frames: &mut [u16],
+    frames: &mut [Frame],
     m: Limits,
     r: Registers,
 ) -> Registers
@@ -39,13 +73,10 @@ fn turn(
         put_frame(frames, r.depth, waiting(r));
         return enter(index, stack, m, r);
     }
-    if r.why != RETURNS {
-        return r;
+    if goes_back(r) {
+        return leave(index, stack, r, frame_at(frames, below(r)));
     }
-    if r.depth == 0 {
-        return paused(r, RESULT);
-    }
-    leave(index, stack, r, frame_at(frames, r.depth - 1))
+    over(r)
 }
 
 // No step is left: a return in the only frame is still the result.
@@ -66,13 +97,13 @@ fn settled(file: &[u8], r: Registers) -> Registers
     paused(r, RESULT)
 }
 
-// For the crates above: the run from a state on.
+// For the crates above: the run from a state on. Proved by hand, since it holds the table.
 pub fn drive(
     file: &[u8],
     index: &[u32; 128],
     cells: &mut [u16],
     stack: &mut [u16],
-    frames: &mut [u16],
+    frames: &mut [Frame],
     m: Limits,
     start: Registers,
 ) -> Registers

@@ -94,8 +94,24 @@ fn ended(answer: Answer, result: &[u8], begun: u64) {
     number(begun);
 }
 
-// The answer of run, with what it left in its tables and wrote to the output.
-pub fn ran(answer: Answer, left: Left, out: &[u8]) {
+// Whether a run has begun that had no usable cells and no usable stack, in which nothing shows it. Before the start such a run is
+// refused for its program, its entry or its arguments, for want of any frame, or for want of stack places for its arguments.
+fn begun_unseen(ending: Ending, arguments: usize, frames: usize) -> bool {
+    match ending {
+        Ending::Result(_) => true,
+        Ending::Aborted => true,
+        Ending::Refused(reason) => match reason {
+            Reason::BudgetSpent(_) => true,
+            Reason::OutOfCells(_) => true,
+            Reason::OutOfStack(_) => arguments == 0,
+            Reason::OutOfFrames(_) => 0 < frames,
+            _ => false,
+        },
+    }
+}
+
+// The answer of run on so many argument bytes and frames, with what it left in its tables and wrote to the output.
+pub fn ran(answer: Answer, left: Left, arguments: usize, frames: usize, out: &[u8]) {
     let ending = answer.ending;
     let n = result_length(ending);
     if out.len() < n {
@@ -107,7 +123,14 @@ pub fn ran(answer: Answer, left: Left, out: &[u8]) {
         return;
     }
     match left {
-        Left::Kept | Left::Either => ended(answer, &out[0..n], 0),
+        Left::Either => {
+            if begun_unseen(ending, arguments, frames) {
+                ended(answer, &out[0..n], 1);
+            } else {
+                ended(answer, &out[0..n], 0);
+            }
+        }
+        Left::Kept => ended(answer, &out[0..n], 0),
         Left::Zeroed => ended(answer, &out[0..n], 1),
         Left::Wrong => wrong(),
     }

@@ -88,10 +88,7 @@ fn both(a: Left, b: Left) -> Left {
     }
 }
 
-// What a run left in its cells of five numbers, its stack, and its frames of three numbers.
-pub fn found(cells: &[u16], stack: &[u16], frames: &[u16]) -> Left {
-    both(
-        both(left_in(cells, 5), left_in(stack, 1)),
-        left_in(frames, 3),
-    )
+// What a run left in its cells of five numbers and in its stack. Its frames are its own, and end with it.
+pub fn found(cells: &[u16], stack: &[u16]) -> Left {
+    both(left_in(cells, 5), left_in(stack, 1))
 }

@@ -1,22 +1,17 @@
 -- Laws of the walk over a result's cells: what is counted or written, and the bytes still to come, are together the value's bytes.
 use Prim.Native.Nat.{ℕ, suc, _+_, _≤_, _<_}
 use mathlib.Core.Path.{_≡_, refl, sym, ap, ap₂, _∙_}
-use mathlib.Core.List.{List, [], _∷_, _++_, append-nil}
+use mathlib.Core.List.{List, _∷_, _++_, append-nil}
 use native.Mathlib.Omega.{arith}
 use native.Mathlib.Numerals.{add-one}
-use native.Mathlib.Nat.{add-zero}
 use lib.ListN.{length, getD, set, length-append}
 use lib.Seq.{sets, sets-eq}
+use Rattle.rules.proofs.ListLaws.{sets-append}
 use Rattle.rules.specs.Memory.{frontWritten}
 use Rattle.store.specs.Cells.{constructorIn, argumentIn}
-use Rattle.result.specs.Result.{arityBy, bytesOf, Readable, VisitAt}
+use Rattle.fetch.specs.Indexed.{constructorArity}
+use Rattle.result.specs.Result.{bytesOf, Readable, VisitAt}
 use Rattle.result.proofs.ValueLaws.{rest, rest-none, rest-more, before, bytes-all, readable-at}
-
-sets-append : (l : List ℕ) (i : ℕ) (vs ws : List ℕ) → sets l i (vs ++ ws) ≡ sets (sets l i vs) (i + length vs) ws
-sets-append l i [] ws = rw add-zero
-sets-append l i (v ∷ vs) ws =
-    let e : suc i + length vs ≡ i + suc (length vs) = omega arith in
-    sets-append (set l i v) (suc i) vs ws ∙ ap (λ (k : ℕ). sets (sets (set l i v) (suc i) vs) k ws) e
 
 module _ (index cells : List ℕ) (k : ℕ) (ok : Readable index cells k) where
   pub length-all : length (bytesOf index cells k) ≡ suc (length (rest index cells k 0))
@@ -32,7 +27,7 @@ module _ (index cells : List ℕ) (k : ℕ) (ok : Readable index cells k) where
 
 module _ {index cells : List ℕ} {here n j : ℕ} (at : VisitAt index cells here n j) (more : j < n) {r : ℕ}
     (named : r ≡ argumentIn cells here j) where
-  visit-less : j < arityBy index (constructorIn cells here)
+  visit-less : j < constructorArity index (constructorIn cells here)
   visit-less = omega (arith, at .arity, more)
 
   -- the argument visited comes before the cell

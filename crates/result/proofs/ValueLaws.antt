@@ -17,7 +17,8 @@ use Rattle.rules.proofs.HeapLaws.{value-fuel}
 use Rattle.rules.proofs.MapLaws.{map-alike}
 use Rattle.store.specs.Cells.{constructorIn, argumentIn, argumentsIn, CellRoom, heapIn}
 use Rattle.store.proofs.CellLaws.{arguments-length, arguments-all, arguments-next, heap-length, heap-cell, room-less}
-use Rattle.result.specs.Result.{arityBy, bytesOf, Readable}
+use Rattle.fetch.specs.Indexed.{constructorArity}
+use Rattle.result.specs.Result.{bytesOf, Readable}
 
 ---- A longer heap
 
@@ -46,8 +47,8 @@ pub bytes-in : (index cells : List ℕ) (used k : ℕ) → k < used → NamesEar
 unfolding bytesOf
 bytes-in index cells used k h earlier =
     let longer : k + 1 ≤ used = omega arith in
-    ap written (sym (value-same (arityBy index) cells (k + 1) used longer
-    (earlier-less (arityBy index) cells (k + 1) used longer earlier) (suc k) k (omega arith)))
+    ap written (sym (value-same (constructorArity index) cells (k + 1) used longer
+    (earlier-less (constructorArity index) cells (k + 1) used longer earlier) (suc k) k (omega arith)))
 
 -- a cell of the first cells
 pub readable : (index cells : List ℕ) (used k : ℕ) → k < used → used ≤ 65535 → CellRoom cells used
@@ -58,7 +59,7 @@ readable index cells used k h most room known few earlier = record {
   small = omega arith;
   known = λ i l. known i (omega arith);
   few = λ i l. few i (omega arith);
-  earlier = earlier-less (arityBy index) cells (k + 1) used (omega arith) earlier;
+  earlier = earlier-less (constructorArity index) cells (k + 1) used (omega arith) earlier;
 }
 
 ---- The arguments
@@ -90,20 +91,20 @@ written-all index cells f e (_l∷_ {x} p ps) = ap₂ _++_ (e x p) (written-all 
 
 -- the bytes of the arguments of cell k from the j-th on
 pub rest : List ℕ → List ℕ → ℕ → ℕ → List ℕ
-rest index cells k j = bytesAll index cells (drop j (argumentsIn cells k (arityBy index (constructorIn cells k))))
+rest index cells k j = bytesAll index cells (drop j (argumentsIn cells k (constructorArity index (constructorIn cells k))))
 
 module _ (index cells : List ℕ) (k : ℕ) where
-  pub rest-none : (j : ℕ) → arityBy index (constructorIn cells k) ≤ j → rest index cells k j ≡ []
+  pub rest-none : (j : ℕ) → constructorArity index (constructorIn cells k) ≤ j → rest index cells k j ≡ []
   unfolding rest bytesAll
   rest-none j h =
-      let m : ℕ = arityBy index (constructorIn cells k) in
+      let m : ℕ = constructorArity index (constructorIn cells k) in
       rw (drop-of-length-le (argumentsIn cells k m) {i = j} (omega (arith, arguments-length cells k m)))
 
-  pub rest-more : (j r : ℕ) → j < arityBy index (constructorIn cells k) → r ≡ argumentIn cells k j
+  pub rest-more : (j r : ℕ) → j < constructorArity index (constructorIn cells k) → r ≡ argumentIn cells k j
       → rest index cells k j ≡ bytesOf index cells r ++ rest index cells k (j + 1)
   unfolding rest bytesAll
   rest-more j r h q =
-      let m : ℕ = arityBy index (constructorIn cells k) in
+      let m : ℕ = constructorArity index (constructorIn cells k) in
       let e : drop j (argumentsIn cells k m) ≡ getD (argumentsIn cells k m) j 0 ∷ drop (j + 1) (argumentsIn cells k m) =
       rw add-one (drop-cons (argumentsIn cells k m) j 0 (omega (arith, arguments-length cells k m))) in
       rw (e, arguments-at cells k m j h, q)
@@ -112,14 +113,14 @@ module _ (index cells : List ℕ) (k : ℕ) where
     abbrev n : ℕ → ℕ
     n c = getD index c 0
 
-    cell-is : cellAt (heapIn n cells (k + 1)) k .arguments ≡ argumentsIn cells k (arityBy index (constructorIn cells k))
+    cell-is : cellAt (heapIn n cells (k + 1)) k .arguments ≡ argumentsIn cells k (constructorArity index (constructorIn cells k))
     cell-is = ap (λ (x : Cell). x .arguments) (heap-cell n cells (k + 1) k (omega arith))
 
-    named-all : All (λ j. j < k) (argumentsIn cells k (arityBy index (constructorIn cells k)))
+    named-all : All (λ j. j < k) (argumentsIn cells k (constructorArity index (constructorIn cells k)))
     named-all = subst (λ (l : List ℕ). All (λ j. j < k) l) cell-is (ok .earlier k (omega (arith, heap-length n cells (k + 1))))
 
     -- an argument comes before the cell
-    pub before : (j : ℕ) → j < arityBy index (constructorIn cells k) → argumentIn cells k j < k
+    pub before : (j : ℕ) → j < constructorArity index (constructorIn cells k) → argumentIn cells k j < k
     before j h = arguments-all {P = λ i. i < k} cells k _ named-all j h
 
     -- "in prefix order"

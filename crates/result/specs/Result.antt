@@ -7,10 +7,6 @@ use Rattle.rules.specs.Heap.{NamesEarlier, valueOf}
 use Rattle.rules.specs.Prefix.{written}
 use Rattle.store.specs.Cells.{constructorIn, CellRoom, heapIn}
 
--- how many arguments a constructor has
-abbrev pub arityBy : List ℕ → ℕ → ℕ
-arityBy index c = getD index c 0
-
 -- the bytes of the value of cell k
 unfoldable pub bytesOf : List ℕ → List ℕ → ℕ → List ℕ
 bytesOf index cells k = written (valueOf (heapIn (λ c. getD index c 0) cells (k + 1)) k)

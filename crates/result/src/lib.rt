@@ -1,8 +1,8 @@
 // The result: how many bytes it has, and its bytes in prefix order. A cell names only cells before it, so the recursion's cell number
 // falls. All arguments but the last are taken by a call and the last by going round: lists and numbers, however long, take one call.
+use fetch::constructor_arity;
 use store::argument_at;
 use store::constructor_at;
-use store::wide32;
 ghost use mathlib.Core.Path.{_≡_};
 ghost use Prim.Native.Nat.{_+_, _≤_, _<_};
 ghost use lib.ListN.{length, getD};
@@ -16,8 +16,7 @@ fn arity_at(index: &[u32; 128], cells: &[u16], k: usize) -> usize
     requires { ⌜ Readable (now index) (now cells) k ⌝ }
     ensures { λ r. ⌜ r ≡ getD (now (index .entry)) (constructorIn (now (cells .entry)) k) 0 ⌝ }
 {
-    let c = constructor_at(cells, k);
-    wide32(index[c])
+    constructor_arity(index, constructor_at(cells, k))
 }
 
 // For the crates above: how many bytes the value of cell k has.

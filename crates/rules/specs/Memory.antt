@@ -59,3 +59,7 @@ module _ (file : List ℕ) (entry : ℕ) (bytes : List ℕ) (budget : ℕ) (lent
 
   abbrev pub stackAfter : List ℕ → List ℕ
   stackAfter stack = tableAfter (begun file entry bytes lent) 0 (usable lent .stack) stack
+
+  -- of records, with what a cleared one is
+  abbrev pub framesAfter : {A : Type 0} → A → List A → List A
+  framesAfter blank frames = tableAfter (begun file entry bytes lent) blank (usable lent .frames) frames

@@ -41,11 +41,15 @@ unfoldable pub arityOf : Option Constructor → ℕ
 arityOf none = 0
 arityOf (some k) = length (k .arguments)
 
+-- how many arguments constructor c of a program has
+abbrev pub arity : Program → ℕ → ℕ
+arity s c = arityOf (constructor s c)
+
 -- the values that bytes stand for, made "from the last byte to the first"
 unfoldable pub values : Program → List ℕ → List Value
 values s [] = []
 values s (c ∷ bytes) =
-    let n = arityOf (constructor s c) in
+    let n = arity s c in
     let later = values s bytes in
     made c (take n later) ∷ drop n later
 

@@ -22,7 +22,8 @@ use Rattle.store.specs.declared.frames.Frame.{Frame}
 use Rattle.store.specs.declared.limits.Limits.{Limits}
 use Rattle.store.proofs.RefLaws.{length-refs, refs-split-few, refs-split, refs-all}
 use Rattle.store.proofs.CellLaws.{heap-length, heap-cell, arguments-length}
-use Rattle.fetch.specs.Arities.{arity, place}
+use Rattle.rules.specs.Prefix.{arity}
+use Rattle.fetch.specs.Arities.{place}
 use Rattle.fetch.specs.Places.{StandsAt, Behind}
 use Rattle.fetch.proofs.PlaceLaws.{behind-stands}
 use Rattle.steps.specs.Stands.{waitingOn, topOn, stateIn, Standing, LeadsTo}

@@ -20,7 +20,8 @@ use Rattle.store.specs.declared.frames.Frame.{Frame}
 use Rattle.store.specs.declared.limits.Limits.{Limits}
 use Rattle.store.proofs.RefLaws.{length-refs, refs-split-few, refs-split, put-one}
 use Rattle.store.proofs.CellLaws.{heap-length, heap-put, constructor-kept}
-use Rattle.fetch.specs.Arities.{arity, place, NumbersInRange}
+use Rattle.rules.specs.Prefix.{arity}
+use Rattle.fetch.specs.Arities.{place, NumbersInRange}
 use Rattle.fetch.specs.Places.{Behind}
 use Rattle.fetch.proofs.ArityLaws.{arity-is}
 use Rattle.steps.specs.Stands.{waitingOn, topOn, stateIn, Laid, Standing, LeadsTo}

@@ -18,7 +18,8 @@ use Rattle.store.specs.declared.frames.Frame.{Frame}
 use Rattle.store.specs.declared.limits.Limits.{Limits}
 use Rattle.store.proofs.RefLaws.{put-one, put-kept, kept-refl}
 use Rattle.store.proofs.CellLaws.{cell-put-kept, cells-kept-refl, arguments-length}
-use Rattle.fetch.specs.Arities.{arity, place}
+use Rattle.rules.specs.Prefix.{arity}
+use Rattle.fetch.specs.Arities.{place}
 use Rattle.fetch.specs.Indexed.{Indexed, constructorArity}
 use Rattle.fetch.specs.Places.{offsetAt, Inside, Behind}
 use Rattle.fetch.specs.Words.{WordThere}

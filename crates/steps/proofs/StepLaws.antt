@@ -20,7 +20,8 @@ use Rattle.store.specs.declared.frames.Frame.{Frame}
 use Rattle.store.specs.declared.limits.Limits.{Limits}
 use Rattle.store.proofs.RefLaws.{length-refs}
 use Rattle.store.proofs.CellLaws.{heap-length}
-use Rattle.fetch.specs.Arities.{arity, place}
+use Rattle.rules.specs.Prefix.{arity}
+use Rattle.fetch.specs.Arities.{place}
 use Rattle.fetch.specs.Places.{StandsAt, Behind}
 use Rattle.fetch.proofs.PlaceLaws.{behind-stands}
 use Rattle.steps.specs.Stands.{waitingOn, topOn, stateIn, Laid, Standing, answersOn, LeadsTo}

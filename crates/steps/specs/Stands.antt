@@ -7,7 +7,7 @@ use lib.ListN.{length}
 use Rattle.rules.specs.Heap.{HeapFrame, HeapState, heapState, stateOf, Valid}
 use Rattle.rules.specs.HeapRun.{continuedOn}
 use Rattle.rules.specs.Machine.{Value, State, current, step, after, resultOf}
-use Rattle.rules.specs.Prefix.{written}
+use Rattle.rules.specs.Prefix.{arity, written}
 use Rattle.rules.specs.Program.{Program}
 use Rattle.rules.specs.Records.{programIn}
 use Rattle.rules.specs.Run.{Outcome, endOf}
@@ -16,7 +16,7 @@ use Rattle.store.specs.Cells.{refs, constructorIn, heapIn, CellRoom, KeptFrom, 
 use Rattle.store.specs.Limits.{tables}
 use Rattle.store.specs.declared.frames.Frame.{Frame}
 use Rattle.store.specs.declared.limits.Limits.{Limits}
-use Rattle.fetch.specs.Arities.{arity, inputs, place}
+use Rattle.fetch.specs.Arities.{inputs, place}
 use Rattle.fetch.specs.Places.{StandsAt}
 use Rattle.steps.specs.declared.state.Registers.{Registers}
 

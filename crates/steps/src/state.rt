@@ -14,30 +14,30 @@ pub struct Registers {
     pub depth: usize,
     pub left: usize,
     pub callee: usize,
-    pub why: u8,
+    pub why: usize,
 }
 
 // Why the top frame rests: a small number, since it is asked for after every step. From 14 on it is document 01's.
-pub const GOES: u8 = 0;
+pub const GOES: usize = 0;
 
-pub const CALLS: u8 = 1;
+pub const CALLS: usize = 1;
 
-pub const RETURNS: u8 = 2;
+pub const RETURNS: usize = 2;
 
-pub const RESULT: u8 = 3;
+pub const RESULT: usize = 3;
 
-pub const STOPS: u8 = 4;
+pub const STOPS: usize = 4;
 
-pub const NO_STEPS: u8 = 14;
+pub const NO_STEPS: usize = 14;
 
-pub const NO_CELLS: u8 = 15;
+pub const NO_CELLS: usize = 15;
 
-pub const NO_STACK: u8 = 16;
+pub const NO_STACK: usize = 16;
 
-pub const NO_FRAMES: u8 = 17;
+pub const NO_FRAMES: usize = 17;
 
 // For the crates above: the frame rests, and why.
-pub fn paused(r: Registers, why: u8) -> Registers
+pub fn paused(r: Registers, why: usize) -> Registers
     ensures { λ t. ⌜ t ≡ resting r why ⌝ }
 {
     let mut t = r;

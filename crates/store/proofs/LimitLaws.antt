@@ -1,11 +1,11 @@
 -- Laws of what is usable of the lent tables, and of tables whose usable entries are made zero.
-use Prim.Native.Nat.{ℕ, _+_, _-_, _*_, _/_, _≤_, _<_, min}
+use Prim.Native.Nat.{ℕ, zero, suc, _+_, _-_, _*_, _/_, _≤_, _<_, min}
 use mathlib.Core.Path.{_≡_, refl, sym, ap, _∙_}
-use mathlib.Core.List.{List, _++_}
+use mathlib.Core.List.{List, [], _∷_, _++_}
 use mathlib.Core.Bool.{Bool, true, false}
 use mathlib.Core.Logic.{⊎-elim, _⊎_, inl, inr}
 use native.Mathlib.Omega.{arith}
-use native.Mathlib.Nat.{eq-or-lt-of-le}
+use native.Mathlib.Nat.{eq-or-lt-of-le, not-suc-le-zero, le-of-suc-le-suc}
 use lib.Dec.{ltb}
 use lib.ListN.{length, getD, set, drop, replicate}
 use lib.ListN.{length-append, length-drop, length-replicate, length-set, getD-replicate, List·getD-append}
@@ -13,15 +13,16 @@ use lib.Seq.{ext-getD, getD-append-add, getD-drop, getD-set-same, getD-set-other
 use borrow.Author.Tests.{ltb-true, ltb-false}
 use Rattle.rules.specs.Memory.{tableAfter}
 use Rattle.store.specs.Cells.{CellRoom, KeptFrom, CellsKept}
-use Rattle.store.specs.Frames.{FrameRoom, FramesKept}
+use Rattle.store.specs.Frames.{noFrame, frameIn, FrameRoom, FramesKept}
 use Rattle.store.specs.Limits.{LimitsOf, Wiped}
+use Rattle.store.specs.declared.frames.Frame.{Frame}
 use Rattle.store.specs.declared.limits.Limits.{Limits}
 use Rattle.store.proofs.CellLaws.{room-kept}
 use Rattle.store.proofs.FrameLaws.{frame-room-kept}
 use Rattle.store.proofs.RefLaws.{kept-refl}
 
-pub limits-of : (m : Limits) (cells stack frames : List ℕ) → m .cells ≡ min 65535 (length cells / 5) → m .stack ≡ min 65535 (length stack)
-    → m .frames ≡ min 65535 (length frames / 3) → LimitsOf m cells stack frames
+pub limits-of : (m : Limits) (cells stack : List ℕ) (frames : List Frame) → m .cells ≡ min 65535 (length cells / 5)
+    → m .stack ≡ min 65535 (length stack) → m .frames ≡ min 65535 (length frames) → LimitsOf m cells stack frames
 unfolding CellRoom FrameRoom
 limits-of m cells stack frames a b c = record {
   cell-room = omega arith;
@@ -32,8 +33,9 @@ limits-of m cells stack frames a b c = record {
   few-frames = omega arith;
 }
 
-pub limits-kept : (m : Limits) (cells stack frames cells′ stack′ frames′ : List ℕ) → LimitsOf m cells stack frames
-    → length cells′ ≡ length cells → length stack′ ≡ length stack → length frames′ ≡ length frames → LimitsOf m cells′ stack′ frames′
+pub limits-kept : (m : Limits) (cells stack : List ℕ) (frames : List Frame) (cells′ stack′ : List ℕ) (frames′ : List Frame)
+    → LimitsOf m cells stack frames → length cells′ ≡ length cells → length stack′ ≡ length stack → length frames′ ≡ length frames
+    → LimitsOf m cells′ stack′ frames′
 limits-kept m cells stack frames cells′ stack′ frames′ l a b c = record {
   cell-room = room-kept cells cells′ (m .cells) a (l .cell-room);
   few-cells = l .few-cells;
@@ -95,18 +97,49 @@ wiped n l l′ h c =
         ∙ ap (λ (j : ℕ). getD l j 0) f
 
 -- entries that are not usable were kept before: the same as if the table had been wiped at once
-wiped-kept : (n : ℕ) (l l₁ : List ℕ) → KeptFrom n l l₁ → tableAfter true 0 n l₁ ≡ tableAfter true 0 n l
+wiped-kept : {A : Type 0} (d : A) (n : ℕ) (l l₁ : List A) → length l₁ ≡ length l → ((i : ℕ) → n ≤ i → getD l₁ i d ≡ getD l i d)
+    → tableAfter true d n l₁ ≡ tableAfter true d n l
 unfolding tableAfter
-wiped-kept n l l₁ k =
-    ap (λ (r : List ℕ). replicate n 0 ++ r) (ext-getD 0 (drop n l₁) (drop n l)
-    (length-drop n l₁ ∙ ap (λ (x : ℕ). x - n) (k .len) ∙ sym (length-drop n l)) (λ i m.
-    getD-drop n l₁ i 0 ∙ k .high (n + i) (omega arith) ∙ sym (getD-drop n l i 0)))
+wiped-kept {A} d n l l₁ len high =
+    ap (λ (r : List A). replicate n d ++ r) (ext-getD d (drop n l₁) (drop n l)
+    (length-drop n l₁ ∙ ap (λ (x : ℕ). x - n) len ∙ sym (length-drop n l)) (λ i m.
+    getD-drop n l₁ i d ∙ high (n + i) (omega arith) ∙ sym (getD-drop n l i d)))
 
-pub wiped-since : (m : Limits) (a b c a′ b′ c′ a″ b″ c″ : List ℕ) → CellsKept (m .cells) a a′ → KeptFrom (m .stack) b b′
-    → FramesKept (m .frames) c c′ → Wiped m a′ b′ c′ a″ b″ c″ → Wiped m a b c a″ b″ c″
-unfolding CellsKept FramesKept
-wiped-since m a b c a′ b′ c′ a″ b″ c″ p q r w = record {
-  of-cells = w .of-cells ∙ wiped-kept (5 * m .cells) a a′ p;
-  of-stack = w .of-stack ∙ wiped-kept (m .stack) b b′ q;
-  of-frames = w .of-frames ∙ wiped-kept (3 * m .frames) c c′ r;
+pub wiped-since : (m : Limits) (a b a′ b′ a″ b″ : List ℕ) → CellsKept (m .cells) a a′ → KeptFrom (m .stack) b b′
+    → Wiped m a′ b′ a″ b″ → Wiped m a b a″ b″
+unfolding CellsKept
+wiped-since m a b a′ b′ a″ b″ p q w = record {
+  of-cells = w .of-cells ∙ wiped-kept 0 (5 * m .cells) a a′ (p .len) (p .high);
+  of-stack = w .of-stack ∙ wiped-kept 0 (m .stack) b b′ (q .len) (q .high);
 }
+
+pub frames-since : (n : ℕ) (a b : List Frame) → FramesKept n a b → tableAfter true noFrame n b ≡ tableAfter true noFrame n a
+unfolding frameIn
+frames-since n a b k = wiped-kept noFrame n a b (k .len) (k .high)
+
+---- A table of frames that is made zero step by step
+
+abbrev pub zeroFirst : ℕ → List Frame → List Frame
+zeroFirst zero l = l
+zeroFirst (suc k) [] = []
+zeroFirst (suc k) (x ∷ l) = noFrame ∷ zeroFirst k l
+
+pub one-zero : (i : ℕ) (l : List Frame) → i < length l → set (zeroFirst i l) i noFrame ≡ zeroFirst (i + 1) l
+one-zero i l h = let e : suc i ≡ i + 1 = omega arith in go i l h ∙ ap (λ (k : ℕ). zeroFirst k l) e
+  where
+    go : (i : ℕ) (l : List Frame) → i < length l → set (zeroFirst i l) i noFrame ≡ zeroFirst (suc i) l
+    go zero [] lt = absurd (not-suc-le-zero lt)
+    go zero (x ∷ l) lt = refl
+    go (suc i) [] lt = absurd (not-suc-le-zero lt)
+    go (suc i) (x ∷ l) lt = ap (λ (t : List Frame). noFrame ∷ t) (go i l (le-of-suc-le-suc lt))
+
+pub zero-length : (i : ℕ) (l : List Frame) → length (zeroFirst i l) ≡ length l
+zero-length zero l = refl
+zero-length (suc i) [] = refl
+zero-length (suc i) (x ∷ l) = ap suc (zero-length i l)
+
+pub zero-all : (n : ℕ) (l : List Frame) → n ≤ length l → zeroFirst n l ≡ tableAfter true noFrame n l
+unfolding tableAfter
+zero-all zero l h = refl
+zero-all (suc n) [] h = absurd (not-suc-le-zero h)
+zero-all (suc n) (x ∷ l) h = ap (λ (t : List Frame). noFrame ∷ t) (zero-all n l (le-of-suc-le-suc h))

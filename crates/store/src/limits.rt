@@ -4,7 +4,8 @@ ghost use mathlib.Core.Bool.{true};
 ghost use Prim.Native.Nat.{_≤_, _/_, min};
 ghost use lib.ListN.{length};
 ghost use Rattle.rules.specs.Memory.{tableAfter};
-ghost use Rattle.store.specs.Limits.{LimitsOf, Wiped};
+ghost use Rattle.store.specs.Cells.{CellRoom};
+ghost use Rattle.store.specs.Limits.{Wiped};
 
 // What is usable of the tables lent.
 pub struct Limits {
@@ -20,14 +21,14 @@ fn most(n: usize) -> usize
     if n < 65535 { n } else { 65535 }
 }
 
-// For the crates above: what is usable of tables of so many numbers, five to a cell and three to a frame.
+// For the crates above: what is usable of tables of so many numbers, five to a cell, and so many frames.
 pub fn usable(cells: usize, stack: usize, frames: usize) -> Limits
-    ensures { λ r. ⌜ (r .cells ≡ min 65535 (cells / 5)) × (r .stack ≡ min 65535 stack) × (r .frames ≡ min 65535 (frames / 3)) ⌝ }
+    ensures { λ r. ⌜ (r .cells ≡ min 65535 (cells / 5)) × (r .stack ≡ min 65535 stack) × (r .frames ≡ min 65535 frames) ⌝ }
 {
     Limits {
         cells: most(cells / 5),
         stack: most(stack),
-        frames: most(frames / 3),
+        frames: most(frames),
     }
 }
 
@@ -43,13 +44,11 @@ fn clear(table: &mut [u16], n: usize)
     }
 }
 
-// For the crates above: after the run, the usable entries of all tables zero, any beyond kept.
-pub fn wipe(cells: &mut [u16], stack: &mut [u16], frames: &mut [u16], m: Limits)
-    requires { ⌜ LimitsOf m (now cells) (now stack) (now frames) ⌝ }
-    ensures { λ _. ⌜ Wiped m (now (cells .entry)) (now (stack .entry)) (now (frames .entry)) (now (cells .exit)) (now (stack .exit))
-        (now (frames .exit)) ⌝ }
+// For the crates above: after the run, the usable entries of cells and stack zero, any beyond kept.
+pub fn wipe(cells: &mut [u16], stack: &mut [u16], m: Limits)
+    requires { ⌜ CellRoom (now cells) (m .cells) × (m .cells ≤ 65535) × (m .stack ≤ length (now stack)) ⌝ }
+    ensures { λ _. ⌜ Wiped m (now (cells .entry)) (now (stack .entry)) (now (cells .exit)) (now (stack .exit)) ⌝ }
 {
     clear(cells, 5 * m.cells);
     clear(stack, m.stack);
-    clear(frames, 3 * m.frames);
 }

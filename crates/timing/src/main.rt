@@ -2,7 +2,7 @@
 // kit's clock fills a struct behind a reference.
 // A job: ten numbers of four bytes, low byte first, then the program's bytes and the argument bytes.
 // The numbers: mode (1 check, 2 run), repetitions, length of program, length of arguments, entry, budget, lengths of the lent cells
-// (numbers), stack (numbers), frames (numbers, three to a record) and output.
+// (numbers), stack (numbers) and frames (numbers, three to a record), and the length of the output.
 use blocks::long_at;
 use libc::STDIN_FILENO;
 use libc::STDOUT_FILENO;
@@ -50,14 +50,14 @@ fn runs(
     budget: u32,
     cells: &mut [u16],
     stack: &mut [u16],
-    frames: &mut [u16],
+    frames: usize,
     out: &mut [u8],
     times: u32,
 ) -> u64 {
     let mut sum: u64 = 0;
     let mut left = times;
     while 0 < left {
-        let answer = interpreter::run(file, entry, arguments, budget, cells, stack, frames, out);
+        let answer = lending::run_here(file, entry, arguments, budget, cells, stack, frames, out);
         let ending = answer.ending;
         sum = std::num::wrapping_add_u64(sum, ending_number(ending));
         sum = std::num::wrapping_add_u64(sum, answer.steps as u64);
@@ -74,7 +74,7 @@ fn line(sum: u64) {
 fn time_runs(header: &[u8; 40], file: &[u8], arguments: &[u8]) {
     let cells = long_at(header, 24) as usize;
     let stack = long_at(header, 28) as usize;
-    let frames = long_at(header, 32) as usize;
+    let frames = long_at(header, 32) as usize / 3;
     let out = long_at(header, 36) as usize;
     if 327680 < cells {
         return;
@@ -82,15 +82,11 @@ fn time_runs(header: &[u8; 40], file: &[u8], arguments: &[u8]) {
     if 65535 < stack {
         return;
     }
-    if 196605 < frames {
-        return;
-    }
     if 65536 < out {
         return;
     }
     let mut lent_cells = [0u16; 327680];
     let mut lent_stack = [0u16; 65535];
-    let mut lent_frames = [0u16; 196605];
     let mut lent_out = [0u8; 65536];
     let sum = runs(
         file,
@@ -99,7 +95,7 @@ fn time_runs(header: &[u8; 40], file: &[u8], arguments: &[u8]) {
         long_at(header, 20),
         &mut lent_cells[0..cells],
         &mut lent_stack[0..stack],
-        &mut lent_frames[0..frames],
+        frames,
         &mut lent_out[0..out],
         long_at(header, 4),
     );

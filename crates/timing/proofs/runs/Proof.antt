@@ -6,17 +6,17 @@ use Rattle.timing.proofs.runs.Statement.{statement}
 use Rattle.timing.proofs.runs.Tie as tie
 
 abbrev Inv-loop : tie.InvT-loop
-Inv-loop program entry arguments budget cells₀ stack₀ frames₀ out₀ times sum₀ left₀ cells stack frames out sum left =
-    (length cells ≡ length cells₀) × (length stack ≡ length stack₀) × (length frames ≡ length frames₀) × (length out ≡ length out₀)
+Inv-loop program entry arguments budget cells₀ stack₀ frames out₀ times sum₀ left₀ cells stack out sum left =
+    (length cells ≡ length cells₀) × (length stack ≡ length stack₀) × (length out ≡ length out₀)
 
 abbrev μ-loop : tie.MeasureT-loop
-μ-loop file entry arguments budget cells₀ stack₀ frames₀ out₀ times sum₀ left₀ cells stack frames out sum left = left
+μ-loop file entry arguments budget cells₀ stack₀ frames out₀ times sum₀ left₀ cells stack out sum left = left
 
 loop-holds : tie.Need-loop-holds Inv-loop μ-loop
 loop-holds c = search needs
 
-run-requires : tie.Need-run-requires Inv-loop μ-loop
-run-requires c κs = search needs
+run-here-requires : tie.Need-run-here-requires Inv-loop μ-loop
+run-here-requires c κs = search needs
 
 ending-number-requires : tie.Need-ending-number-requires Inv-loop μ-loop
 ending-number-requires c κs = search needs
@@ -48,9 +48,6 @@ same-length-2 c = search needs
 same-length-3 : tie.Need-same-length-3 Inv-loop μ-loop
 same-length-3 c = search needs
 
-same-length-4 : tie.Need-same-length-4 Inv-loop μ-loop
-same-length-4 c = search needs
-
 returns : tie.Need-returns Inv-loop μ-loop
 returns c = search needs
 
@@ -61,7 +58,7 @@ runs-spec =
     Inv-loop
     μ-loop
     loop-holds
-    run-requires
+    run-here-requires
     ending-number-requires
     wrapping-add-u64-requires
     cast-wrapping-add-u64
@@ -72,5 +69,4 @@ runs-spec =
     same-length
     same-length-2
     same-length-3
-    same-length-4
     returns)

@@ -31,68 +31,62 @@ shared-slice-read-wide c = search needs
 wide-requires : tie.Need-wide-requires Inv-loop μ-loop
 wide-requires c κs = search needs
 
-mul-wide32 : tie.Need-mul-wide32 Inv-loop μ-loop
-mul-wide32 c = search needs
-
-element-copy-out-wide32 : tie.Need-element-copy-out-wide32 Inv-loop μ-loop
-element-copy-out-wide32 c =
+constructor-arity-requires : tie.Need-constructor-arity-requires Inv-loop μ-loop
+constructor-arity-requires c κs =
     let at-loop = c .before .before .before in
     let start = at-loop .before .before .before in
     let (s, a) = start .pre .0 in
     omega (arith, byte-known s _ _ a (at-loop .loop .i) (omega arith) (omega arith) _ (c .wide .ensures .0))
 
-wide32-requires : tie.Need-wide32-requires Inv-loop μ-loop
-wide32-requires c κs = search needs
-
 cast-put-cell : tie.Need-cast-put-cell Inv-loop μ-loop
-cast-put-cell c = omega (arith, c .before .before .before .wide .ensures .1)
+cast-put-cell c = omega (arith, c .before .before .wide .ensures .1)
 
 slice-aggregate-put-cell : tie.Need-slice-aggregate-put-cell Inv-loop μ-loop
-slice-aggregate-put-cell c = sym (c .before .before .before .before .before .before .before .loop .inv .2)
+slice-aggregate-put-cell c = sym (c .before .before .before .before .before .before .loop .inv .2)
 
 put-cell-requires : tie.Need-put-cell-requires Inv-loop μ-loop
 put-cell-requires c κs =
-    let at-wide32 = c .before .before in
-    let at-wide = at-wide32 .before .before in
+    let at-arity = c .before .before in
+    let at-wide = at-arity .before in
     let at-loop = at-wide .before .before .before in
     let start = at-loop .before .before .before in
     let l = at-loop .loop in
     let (s, a) = start .pre .0 in
-    let r = byte-room s _ _ a (l .i) (omega arith) (omega arith) _ (at-wide .wide .ensures .0) _ (at-wide32 .wide32 .ensures .0) _ _ _ _ _
-    (l .inv .0 s a) in
+    let r = byte-room s _ _ a (l .i) (omega arith) (omega arith) _ (at-wide .wide .ensures .0) _
+    (at-arity .constructor-arity .ensures) _ _ _ _ _ (l .inv .0 s a) in
     let kept = room-kept _ _ _ (cells-kept-length _ _ _ (l .inv .0 s a .kept)) (start .pre .1 .1) in (
       room-less _ _ (l .used + 1) kept (omega arith),
       omega arith,
-      byte-few s _ _ a (l .i) (omega arith) (omega arith) _ (at-wide .wide .ensures .0) _ (at-wide32 .wide32 .ensures .0),
+      byte-few s _ _ a (l .i) (omega arith) (omega arith) _ (at-wide .wide .ensures .0) _ (at-arity .constructor-arity .ensures),
       omega (arith, r, l .inv .2),
     )
 
 add-at : tie.Need-add-at Inv-loop μ-loop
 add-at c =
-    let at-wide32 = c .before .before .before .before .before in
-    let at-wide = at-wide32 .before .before in
+    let at-arity = c .before .before .before .before .before in
+    let at-wide = at-arity .before in
     let at-loop = at-wide .before .before .before in
     let start = at-loop .before .before .before in
     let l = at-loop .loop in
     let (s, a) = start .pre .0 in
     omega (
       arith,
-      byte-room s _ _ a (l .i) (omega arith) (omega arith) _ (at-wide .wide .ensures .0) _ (at-wide32 .wide32 .ensures .0) _ _ _ _ _
-          (l .inv .0 s a),
+      byte-room s _ _ a (l .i) (omega arith) (omega arith) _ (at-wide .wide .ensures .0) _
+          (at-arity .constructor-arity .ensures) _ _ _ _ _ (l .inv .0 s a),
     )
 
 sub-at : tie.Need-sub-at Inv-loop μ-loop
 sub-at c =
-    let at-wide32 = c .before .before .before .before .before in
-    let at-wide = at-wide32 .before .before in
+    let at-arity = c .before .before .before .before .before in
+    let at-wide = at-arity .before in
     let at-loop = at-wide .before .before .before in
     let start = at-loop .before .before .before in
     let l = at-loop .loop in
     let (s, a) = start .pre .0 in
     omega (
       arith,
-      byte-room s _ _ a (l .i) (omega arith) (omega arith) _ (at-wide .wide .ensures .0) _ (at-wide32 .wide32 .ensures .0) _ _ _ _ _
-          (l .inv .0 s a),
+      byte-room s _ _ a (l .i) (omega arith) (omega arith) _ (at-wide .wide .ensures .0) _
+          (at-arity .constructor-arity .ensures) _ _ _ _ _ (l .inv .0 s a),
     )
 
 cast-numbers : tie.Need-cast-numbers Inv-loop μ-loop
@@ -100,30 +94,30 @@ cast-numbers c = search needs
 
 mul-numbers : tie.Need-mul-numbers Inv-loop μ-loop
 mul-numbers c =
-    let at-wide32 = c .before .before .before .before .before in
-    let at-wide = at-wide32 .before .before in
+    let at-arity = c .before .before .before .before .before in
+    let at-wide = at-arity .before in
     let at-loop = at-wide .before .before .before in
     let start = at-loop .before .before .before in
     let l = at-loop .loop in
     let (s, a) = start .pre .0 in
     omega (
       arith,
-      byte-room s _ _ a (l .i) (omega arith) (omega arith) _ (at-wide .wide .ensures .0) _ (at-wide32 .wide32 .ensures .0) _ _ _ _ _
-          (l .inv .0 s a),
+      byte-room s _ _ a (l .i) (omega arith) (omega arith) _ (at-wide .wide .ensures .0) _
+          (at-arity .constructor-arity .ensures) _ _ _ _ _ (l .inv .0 s a),
     )
 
 array-write-numbers : tie.Need-array-write-numbers Inv-loop μ-loop
 array-write-numbers c =
-    let at-wide32 = c .before .before .before .before .before in
-    let at-wide = at-wide32 .before .before in
+    let at-arity = c .before .before .before .before .before in
+    let at-wide = at-arity .before in
     let at-loop = at-wide .before .before .before in
     let start = at-loop .before .before .before in
     let l = at-loop .loop in
     let (s, a) = start .pre .0 in
     omega (
       arith,
-      byte-room s _ _ a (l .i) (omega arith) (omega arith) _ (at-wide .wide .ensures .0) _ (at-wide32 .wide32 .ensures .0) _ _ _ _ _
-          (l .inv .0 s a),
+      byte-room s _ _ a (l .i) (omega arith) (omega arith) _ (at-wide .wide .ensures .0) _
+          (at-arity .constructor-arity .ensures) _ _ _ _ _ (l .inv .0 s a),
     )
 
 add-used : tie.Need-add-used Inv-loop μ-loop
@@ -135,11 +129,11 @@ loop-less c = search needs
 loop-again : tie.Need-loop-again Inv-loop μ-loop
 loop-again c =
     let at-put-cell = c .before .before in
-    let at-wide32 = at-put-cell .before .before .before in
-    let at-wide = at-wide32 .before .before in
+    let at-arity = at-put-cell .before .before .before in
+    let at-wide = at-arity .before in
     let l = at-wide .before .before .before .loop in (
-      λ s a. byte-more s _ _ a (l .i) (omega arith) (omega arith) _ (at-wide .wide .ensures .0) _ (at-wide32 .wide32 .ensures .0) _ _ _ _ _
-          (l .inv .0 s a) (l .inv .2) _ (at-put-cell .put-cell .ensures) (omega arith),
+      λ s a. byte-more s _ _ a (l .i) (omega arith) (omega arith) _ (at-wide .wide .ensures .0) _
+          (at-arity .constructor-arity .ensures) _ _ _ _ _ (l .inv .0 s a) (l .inv .2) _ (at-put-cell .put-cell .ensures) (omega arith),
       omega arith,
       simp length-set (l .inv .2),
     )
@@ -165,9 +159,7 @@ make-arguments-spec =
     sub-i
     shared-slice-read-wide
     wide-requires
-    mul-wide32
-    element-copy-out-wide32
-    wide32-requires
+    constructor-arity-requires
     cast-put-cell
     slice-aggregate-put-cell
     put-cell-requires

@@ -6,6 +6,7 @@ use borrow.Fn.PlainCycle.{Measures, is, falls, and}
 use Rattle.cases.proofs.runs.run_within.Reads as own
 use Rattle.cases.proofs.runs.run_within.Kinds as kinds
 use Rattle.cases.proofs.runs.+run_within.Lts-run_within as lts
+use Rattle.cases.proofs.runs.fits.Reads as fits
 use Rattle.cases.proofs.runs.run_small.Reads as small
 use Rattle.cases.proofs.runs.run_deep.Reads as deep
 use Rattle.cases.proofs.runs.run_large.Reads as large
@@ -25,6 +26,8 @@ abbrev claims : ℕ → lts.Claims
 claims t = (
   and 1 kinds.ps (falls 1 kinds.ps _<_ tries t) own.Pre,
   own.Post,
+  fits.Asked,
+  fits.Learnt,
   small.Asked,
   small.Learnt,
   deep.Asked,
@@ -45,23 +48,41 @@ calls-itself t c κs = search needs
 was-done : (t : ℕ) → lts.Need-returns-2 (claims t) (given t) own.Post
 was-done t c = search needs
 
+asks-small : (t : ℕ) → lts.Need-fits-requires (claims t) (given t) own.Post
+asks-small t c κs = search needs
+
 calls-small : (t : ℕ) → lts.Need-run-small-requires (claims t) (given t) own.Post
 calls-small t c κs = search needs
 
 small-returns : (t : ℕ) → lts.Need-returns-3 (claims t) (given t) own.Post
 small-returns t c = search needs
 
+not-small : (t : ℕ) → lts.Need-returns-4 (claims t) (given t) own.Post
+not-small t c = search needs
+
+asks-deep : (t : ℕ) → lts.Need-fits-requires-2 (claims t) (given t) own.Post
+asks-deep t c κs = search needs
+
 calls-deep : (t : ℕ) → lts.Need-run-deep-requires (claims t) (given t) own.Post
 calls-deep t c κs = search needs
 
-deep-returns : (t : ℕ) → lts.Need-returns-4 (claims t) (given t) own.Post
+deep-returns : (t : ℕ) → lts.Need-returns-5 (claims t) (given t) own.Post
 deep-returns t c = search needs
+
+not-deep : (t : ℕ) → lts.Need-returns-6 (claims t) (given t) own.Post
+not-deep t c = search needs
+
+asks-large : (t : ℕ) → lts.Need-fits-requires-3 (claims t) (given t) own.Post
+asks-large t c κs = search needs
 
 calls-large : (t : ℕ) → lts.Need-run-large-requires (claims t) (given t) own.Post
 calls-large t c κs = search needs
 
-large-returns : (t : ℕ) → lts.Need-returns-5 (claims t) (given t) own.Post
+large-returns : (t : ℕ) → lts.Need-returns-7 (claims t) (given t) own.Post
 large-returns t c = search needs
+
+not-large : (t : ℕ) → lts.Need-returns-8 (claims t) (given t) own.Post
+not-large t c = search needs
 
 pub +run-within-spec : {M : Type 1} → statement M
 +run-within-spec =
@@ -74,9 +95,15 @@ pub +run-within-spec : {M : Type 1} → statement M
     (one-fewer t)
     (calls-itself t)
     (was-done t)
+    (asks-small t)
     (calls-small t)
     (small-returns t)
+    (not-small t)
+    (asks-deep t)
     (calls-deep t)
     (deep-returns t)
+    (not-deep t)
+    (asks-large t)
     (calls-large t)
     (large-returns t)
+    (not-large t)

@@ -10,10 +10,7 @@ slice-aggregate-run-in-2 : tie.Need-slice-aggregate-run-in-2
 slice-aggregate-run-in-2 c = filled-long 80000 42405
 
 slice-aggregate-run-in-3 : tie.Need-slice-aggregate-run-in-3
-slice-aggregate-run-in-3 c = filled-long 210000 42405
-
-slice-aggregate-run-in-4 : tie.Need-slice-aggregate-run-in-4
-slice-aggregate-run-in-4 c = filled-long 70000 165
+slice-aggregate-run-in-3 c = filled-long 70000 165
 
 run-in-requires : tie.Need-run-in-requires
 run-in-requires c κs = tt
@@ -23,5 +20,4 @@ returns c = tt
 
 pub run-large-spec : {M : Type 1} → statement M
 run-large-spec =
-    tie.close (tie.spec slice-aggregate-run-in slice-aggregate-run-in-2 slice-aggregate-run-in-3 slice-aggregate-run-in-4 run-in-requires
-    returns)
+    tie.close (tie.spec slice-aggregate-run-in slice-aggregate-run-in-2 slice-aggregate-run-in-3 run-in-requires returns)

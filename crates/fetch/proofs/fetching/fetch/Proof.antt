@@ -25,7 +25,7 @@ returns c =
     let at-if1 = at-offset-at .before in
     let start = at-if1 .before .before in (
       rw (at-offset-at .offset-at .ensures) at (c .apart .ensures),
-      behind-over (start .args .at) (at-if1 .if1 .taken),
+      behind-over (start .args .at) (omega (arith, at-if1 .if1 .taken)),
       omega (arith, place-small (start .args .at) (omega (arith, start .pre .2, start .pre .0 .small))),
     )
 

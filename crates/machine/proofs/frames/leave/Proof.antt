@@ -39,7 +39,7 @@ place-behind-requires : tie.Need-place-behind-requires
 place-behind-requires c κs =
     let start = c .before .before .before .before .before .before .before .before in
     rw (c .before .code-at .ensures, c .before .before .wide16 .ensures .0)
-    (start .pre .1 .0 .3, start .pre .1 .0 .4, omega (arith, c .wide162 .ensures .0, start .pre .1 .0 .1))
+    (start .pre .1 .3, start .pre .1 .4, omega (arith, c .wide162 .ensures .0, start .pre .1 .1))
 
 wide16-requires-3 : tie.Need-wide16-requires-3
 wide16-requires-3 c κs = search needs
@@ -54,7 +54,7 @@ sub-t17 : tie.Need-sub-t17
 sub-t17 c = search needs
 
 sub-t18 : tie.Need-sub-t18
-sub-t18 c = c .before .before .before .before .before .before .before .before .before .before .before .before .before .pre .1 .1 .1
+sub-t18 c = c .before .before .before .before .before .before .before .before .before .before .before .before .before .pre .2 .1
 
 same-length : tie.Need-same-length
 same-length c = search needs

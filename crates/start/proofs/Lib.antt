@@ -1,0 +1,4 @@
+pub mod BeginLaws
+pub mod CallLaws
+pub mod LoadLaws
+pub mod PrepareLaws
