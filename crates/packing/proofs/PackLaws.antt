@@ -5,7 +5,7 @@ use mathlib.Core.Bool.{false}
 use Prim.Native.Nat.{ℕ, zero, suc, _+_, _*_, _-_, _/_, _≤_, _<_, min}
 use native.Mathlib.Omega.{arith}
 use native.Mathlib.Nat.{add-zero, add-suc, suc-add, zero-add}
-use lib.ListN.{length, take, drop, replicate, length-append, length-take, length-drop, length-replicate}
+use lib.ListN.{length, take, drop, replicate, length-append, length-take, length-drop}
 use lib.Seq.{take-all, drop-drop}
 use native.Mathlib.Decide.{decLe}
 use borrow.Rule.Slice.PartMut.{putMid}
@@ -13,6 +13,7 @@ use borrow.Author.Tests.{le-leb, lt-leb}
 use Rattle.rules.specs.Base.{Refusal, refusal, found, refused, within}
 use Rattle.rules.specs.Container.{weighed, checksum, bytes2, bytes4, blockBody, block, blocksOf, blockCount, packed, pack, verified, unpack}
 use Rattle.rules.specs.Memory.{frontWritten, overwritten}
+use Rattle.rules.proofs.ContainerLaws.{body-length, block-length, blocks-length}
 use Rattle.rules.proofs.WriteLaws.{front-grown, front-whole}
 use Rattle.packing.specs.Written.{Put}
 
@@ -60,17 +61,9 @@ weighed-zeros k (suc n) = rw (weighed-zeros (suc k) n) (omega arith)
 ---- A block
 
 module _ (k : ℕ) (part : List ℕ) (h : length part ≤ 504) where
-  pub body-length : length (blockBody k part) ≡ 508
-  unfolding blockBody
-  body-length = simp (length-append, length-replicate) (omega arith)
-
-  pub block-length : length (block k part) ≡ 512
-  unfolding block
-  block-length = simp (length-append, body-length) (omega arith)
-
   pub check-whole : checksum (blockBody k part) ≡ weighed 1 (blockBody k part)
   unfolding checksum
-  check-whole = ap (weighed 1) (take-all 508 (blockBody k part) (omega (arith, body-length)))
+  check-whole = ap (weighed 1) (take-all 508 (blockBody k part) (omega (arith, body-length k part h)))
 
   -- the zeros add nothing
   body-check : checksum (blockBody k part) ≡ weighed 1 (bytes2 k ++ bytes2 (length part)) + weighed 5 part
@@ -111,18 +104,6 @@ blocks-more zero k p = rw (append-nil, add-zero)
 blocks-more (suc n) k p =
     let e : 504 * suc n ≡ 504 + 504 * n = omega arith in
     rw (suc-add, blocks-more n (suc k) (drop 504 p), drop-drop, e, suc-add, add-suc, append-assoc)
-
-blocks-length : (n k : ℕ) (p : List ℕ) → length (blocksOf n k p) ≡ 512 * n
-unfolding blocksOf
-blocks-length zero k p = refl
-blocks-length (suc n) k p =
-    let part = take 504 p in
-    rw (length-append (block k part), block-length k part (simp length-take (omega arith)), blocks-length n (suc k) (drop 504 p))
-    (omega arith)
-
-pub packed-length : (bytes : List ℕ) → length (packed bytes) ≡ 512 * blockCount (length bytes)
-unfolding packed
-packed-length bytes = blocks-length (blockCount (length bytes)) 0 bytes
 
 -- the part of a block, as many bytes as there are
 part-taken : (w : ℕ) (l : List ℕ) → w ≡ min 504 (length l) → take w l ≡ take 504 l

@@ -14,11 +14,12 @@ use Rattle.rules.specs.Container.{blockCount, packed}
 use Rattle.rules.specs.Lists.{l[], Bytes}
 use Rattle.rules.specs.Memory.{copiedInto, packLeaves}
 use Rattle.rules.proofs.ContainerLaws.{used-small, used-of-first, full-count, verify-begun, verified-parts, verified-whole}
+use Rattle.rules.proofs.ContainerLaws.{block-length, packed-length}
 use Rattle.rules.proofs.ListLaws.{all-append, all-take, all-drop, and-left}
 use Rattle.rules.proofs.TriedLaws.{bind-found, found-inj}
 use Rattle.packing.specs.Round.{Payload, RoundTrip, Exact}
 use Rattle.blocks.proofs.VerifyLaws.{verified-passed}
-use Rattle.packing.proofs.PackLaws.{block-length, packed-length, pack-fits, unpack-fits}
+use Rattle.packing.proofs.PackLaws.{pack-fits, unpack-fits}
 use Rattle.packing.proofs.RoundLaws.{block-used, block-part, block-bytes, block-verified, BlockPasses, block-passes, partOf}
 use Rattle.packing.proofs.RoundLaws.{block-again}
 

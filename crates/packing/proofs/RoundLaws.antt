@@ -12,11 +12,11 @@ use borrow.Author.Tests.{eq-eqb, eqb-true}
 use Rattle.rules.specs.Base.{refusal, passed, require, isZero, all, byteAt, wordAt, longAt}
 use Rattle.rules.specs.Container.{weighed, checksum, usedRight, blockRight, verifyBlock, bytes2, bytes4, blockBody, block}
 use Rattle.rules.specs.Lists.{l[], _l∷_, Bytes}
-use Rattle.rules.proofs.ContainerLaws.{used-small}
+use Rattle.rules.proofs.ContainerLaws.{used-small, body-length}
 use Rattle.rules.proofs.ListLaws.{all-append, all-drop, all-getD, and-left, and-right}
 use Rattle.rules.proofs.TriedLaws.{bind-found, required}
 use Rattle.blocks.proofs.BlockLaws.{fields-tested, block-tested}
-use Rattle.packing.proofs.PackLaws.{body-length, check-whole}
+use Rattle.packing.proofs.PackLaws.{check-whole}
 use Rattle.rules.proofs.SumLaws.{term-bound}
 
 ---- Zeros, sums, numbers in bytes

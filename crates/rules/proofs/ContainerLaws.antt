@@ -6,13 +6,13 @@ use Prim.Native.Nat.{ℕ, zero, suc, _+_, _*_, _-_, _/_, _%_, _≤_, _<_}
 use native.Mathlib.Omega.{arith}
 use native.Mathlib.Numerals.{add-one}
 use native.Mathlib.Nat.{add-zero, add-suc, suc-add, add-comm, not-suc-le-zero, le-of-suc-le-suc}
-use lib.ListN.{length, take, drop, getD, length-append, length-drop, List·getD-append}
+use lib.ListN.{length, take, drop, getD, length-append, length-take, length-drop, length-replicate, List·getD-append}
 use lib.Seq.{drop-cons, drop-drop, getD-append-add, getD-take, getD-drop, length-take-le}
 use lib.Dec.{leb, ltb, eqb}
 use borrow.Author.Tests.{leb-true, ltb-true, ltb-false, eqb-true, eqb-false, eq-eqb, ne-eqb}
 use Rattle.rules.specs.Base.{found, refused, refusal, _>>=_, passed, require, isZero, all, byteAt, wordAt, longAt}
 use Rattle.rules.specs.Container.{weighed, checksum, usedRight, blockRight, verifyBlock, verifyBlocks, lengthRight, verify, payloadOf}
-use Rattle.rules.specs.Container.{payload, placeOf}
+use Rattle.rules.specs.Container.{payload, placeOf, blockBody, block, blocksOf, blockCount, packed}
 use Rattle.rules.specs.Established.{Verified}
 use Rattle.rules.proofs.TriedLaws.{bind-found, required}
 
@@ -213,3 +213,26 @@ module _ {file : List ℕ} (v : Verified file) where
   verified-byte k h =
       sym (payload-byte (length file / 512) 0 file (omega (arith, verified-whole file (v .blocks))) (verified-parts file (v .blocks) .1) k
       h)
+
+---- How long blocks are
+
+module _ (k : ℕ) (part : List ℕ) (h : length part ≤ 504) where
+  pub body-length : length (blockBody k part) ≡ 508
+  unfolding blockBody
+  body-length = simp (length-append, length-replicate) (omega arith)
+
+  pub block-length : length (block k part) ≡ 512
+  unfolding block
+  block-length = simp (length-append, body-length) (omega arith)
+
+pub blocks-length : (n k : ℕ) (p : List ℕ) → length (blocksOf n k p) ≡ 512 * n
+unfolding blocksOf
+blocks-length zero k p = refl
+blocks-length (suc n) k p =
+    let part = take 504 p in
+    rw (length-append (block k part), block-length k part (simp length-take (omega arith)), blocks-length n (suc k) (drop 504 p))
+    (omega arith)
+
+pub packed-length : (bytes : List ℕ) → length (packed bytes) ≡ 512 * blockCount (length bytes)
+unfolding packed
+packed-length bytes = blocks-length (blockCount (length bytes)) 0 bytes

@@ -50,3 +50,4 @@ pub mod CheckExact
 pub mod MemoryLaws
 pub mod WriteLaws
 pub mod CheckLaws
+pub mod WordsSmall

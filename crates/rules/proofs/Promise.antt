@@ -215,7 +215,7 @@ unfolding argumentsRight
 arguments-numbers s f args =
     refuses-required RunNumber (leb (length args) 65535) _ _ (omega arith, omega arith) (bytes-numbers s 0 args (f .parameters))
 
-no-room-number : {m : Tables} {st : State} {cells number : ℕ} → NoRoom m st cells number → (15 ≤ number) × (number ≤ 17)
+pub no-room-number : {m : Tables} {st : State} {cells number : ℕ} → NoRoom m st cells number → (15 ≤ number) × (number ≤ 17)
 no-room-number (frames h) = (omega arith, omega arith)
 no-room-number (stack h k) = (omega arith, omega arith)
 no-room-number (heap h k l) = (omega arith, omega arith)

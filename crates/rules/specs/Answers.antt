@@ -1,7 +1,8 @@
 -- What the code's answers say, in the numbers and places of document 01: `refusalOf` is the one definition of them.
-use mathlib.Core.List.{List}
+use mathlib.Core.List.{List, [], _∷_, _++_}
 use Prim.Native.Nat.{ℕ}
-use lib.ListN.{length}
+use lib.ListN.{length, getD}
+use lib.Dec.{leb}
 use Rattle.rules.specs.declared.answers.Place.{Place}
 use Rattle.rules.specs.declared.answers.Reason.{Reason}
 use Rattle.rules.specs.declared.answers.Reason.the-variants as reason
@@ -15,7 +16,9 @@ use Rattle.rules.specs.declared.answers.Checked.the-variants as rule
 use Rattle.rules.specs.declared.answers.Ending as ending
 use Rattle.rules.specs.declared.answers.Ending.the-variants as ends
 use Rattle.rules.specs.declared.answers.Answer as answers
-use Rattle.rules.specs.Base.{Refusal, refusal, Tried, found, refused, Check, passed}
+use Rattle.rules.specs.Base.{Refusal, refusal, Tried, found, refused, Check, passed, if_then_else_}
+use Rattle.rules.specs.Container.{bytes4}
+use Rattle.rules.specs.Memory.{frontWritten}
 use Rattle.rules.specs.Run.{Ending, finished, aborted, refusedWith, Answer, answer}
 
 -- a number at an instruction of a function
@@ -79,3 +82,38 @@ measuredEnding (refusedWith r) = refusedWith r
 
 abbrev pub measured : Answer (List ℕ) → Answer ℕ
 measured a = answer (measuredEnding (a .ending)) (a .steps)
+
+---- Answers as words of 32 bits, for programs in other languages
+
+-- check: the number, then types, constructors and functions, or the two places and 0
+abbrev pub checkWords : Tried Counts → List ℕ
+checkWords (found c) = 0 ∷ c .types ∷ c .constructors ∷ c .functions ∷ []
+checkWords (refused r) = r .number ∷ r .first ∷ r .second ∷ 0 ∷ []
+
+-- pack and unpack: the number, the two places, the length
+abbrev pub lengthWords : Tried ℕ → List ℕ
+lengthWords (found n) = 0 ∷ 0 ∷ 0 ∷ n ∷ []
+lengthWords (refused r) = r .number ∷ r .first ∷ r .second ∷ 0 ∷ []
+
+-- run: the number, 100 where the program gave up, the two places, the steps, the result's length
+abbrev pub endWords : Ending ℕ → ℕ → List ℕ
+endWords (finished n) steps = 0 ∷ 0 ∷ 0 ∷ steps ∷ n ∷ []
+endWords aborted steps = 100 ∷ 0 ∷ 0 ∷ steps ∷ 0 ∷ []
+endWords (refusedWith r) steps = r .number ∷ r .first ∷ r .second ∷ steps ∷ 0 ∷ []
+
+abbrev pub runWords : Answer ℕ → List ℕ
+runWords a = endWords (a .ending) (a .steps)
+
+-- what an entry returns
+abbrev pub codeOf : List ℕ → ℕ
+codeOf words = getD words 0 0
+
+-- words in bytes, the low byte first
+unfoldable pub wordBytes : List ℕ → List ℕ
+wordBytes [] = []
+wordBytes (w ∷ ws) = bytes4 w ++ wordBytes ws
+
+-- at the front of a buffer; one that is too short is kept
+unfoldable pub wordsInto : List ℕ → List ℕ → List ℕ
+wordsInto words buffer =
+    if leb (length (wordBytes words)) (length buffer) then frontWritten (wordBytes words) buffer else buffer

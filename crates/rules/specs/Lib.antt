@@ -36,3 +36,4 @@ pub mod ArgumentRules
 pub mod PackingRules
 pub mod Promise
 pub mod Facts
+pub mod WordRules

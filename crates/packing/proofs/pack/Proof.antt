@@ -5,7 +5,8 @@ use lib.ListN.{length}
 use borrow.Author.Tests.{lt-leb}
 use Rattle.rules.specs.Container.{blockCount, packed}
 use Rattle.rules.specs.Memory.{copiedInto}
-use Rattle.packing.proofs.PackLaws.{pack-bad, pack-short, pack-fits, packed-length}
+use Rattle.rules.proofs.ContainerLaws.{packed-length}
+use Rattle.packing.proofs.PackLaws.{pack-bad, pack-short, pack-fits}
 use borrow.Author.Needs.{needs}
 use Rattle.packing.proofs.pack.Statement.{statement}
 use Rattle.packing.proofs.pack.Tie as tie
