@@ -3,7 +3,9 @@ import os, re, sys
 
 # Words of commands, formats and the language, which no file has to declare.
 PLAIN = {'bash', 'cargo', 'python3', 'rt', 'ci', 'check', 'try', 'sh', 'axioms', 'pub', 'fn', 'requires', 'ensures', 'struct', 'mod',
-         'now', 'entry', 'exit', 'rounds', 'seconds', 'only', 'main', 'unfolding', 'computed', 'std'}
+         'now', 'entry', 'exit', 'rounds', 'seconds', 'only', 'main', 'unfolding', 'computed', 'std', 'doc', 'dev', 'goals', 'allow-holes',
+         'incremental', 'cache', 'trusted', 'edit', 'Lts'}
+SOURCES = ('crates/', 'model/', 'bench/', 'tests/', 'tools/', 'examples/')  # their documents declare nothing
 NAME = re.compile(r"[A-Za-z][\w′]*(?:[-_][\w′]+)*")
 
 
@@ -15,13 +17,13 @@ def repository():
 
 
 def known(files):
-    """Every name that the crates, the model and the scripts have: words of their text, and parts of their paths."""
+    """Every name that the crates, the model and the scripts have: words of their text, and parts of all paths."""
     names = set(PLAIN)
     for path in files:
         for part in path.split('/'):
             names.add(part)
             names.add(part.rsplit('.', 1)[0])
-        if path.startswith(('crates/', 'model/', 'bench/', 'tests/', 'tools/')) and not path.startswith('tests/docs/'):
+        if path.startswith(SOURCES) and not path.startswith('tests/docs/') and not path.endswith('.md'):
             names.update(NAME.findall(code(path)))
     return names
 

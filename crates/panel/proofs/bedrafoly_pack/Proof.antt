@@ -1,0 +1,35 @@
+use mathlib.Core.Path.{ap, _∙_}
+use native.Mathlib.Omega.{arith}
+use Rattle.rules.specs.Answers.{lengthWords}
+use Rattle.panel.proofs.WordLaws.{told-words}
+use borrow.Author.Needs.{needs}
+use Rattle.panel.proofs.bedrafoly_pack.Statement.{statement}
+use Rattle.panel.proofs.bedrafoly_pack.Tie as tie
+
+pack-requires : tie.Need-pack-requires
+pack-requires c κs = search needs
+
+length-words-requires : tie.Need-length-words-requires
+length-words-requires c κs = search needs
+
+tell-requires : tie.Need-tell-requires
+tell-requires c κs = search needs
+
+same-length : tie.Need-same-length
+same-length c = search needs
+
+same-length-2 : tie.Need-same-length-2
+same-length-2 c = search needs
+
+returns : tie.Need-returns
+returns c =
+    let at-words = c .before .before .before .before in
+    let made = at-words .before .before .before .pack .ensures in
+    let t = told-words (at-words .length-words .result) _ 4 (omega arith) (at-words .length-words .ensures .0 ∙ ap lengthWords (made .0))
+    (c .before .before .tell .ensures) in
+    (t .0, made .1, t .1)
+
+pub bedrafoly-pack-spec : {M : Type 1} → statement M
+bedrafoly-pack-spec =
+    tie.close
+    (tie.spec pack-requires length-words-requires tell-requires same-length same-length-2 returns)

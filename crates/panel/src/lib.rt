@@ -1,0 +1,79 @@
+// The entries for programs in other languages: numbers and byte slices only. Each returns 0, 100 or document 01's number, and tells the
+// rest in words of 32 bits, where the buffer for them is long enough.
+mod words; // words.rt: an answer in words, and the words in bytes
+
+ghost use mathlib.Core.Path.{_≡_};
+ghost use lib.ListN.{length};
+ghost use Rattle.rules.specs.Answers.{checkWords, lengthWords, lengthOf, runWords, measured, codeOf, wordsInto};
+ghost use Rattle.rules.specs.Check.{verdictOf};
+ghost use Rattle.rules.specs.Container.{pack as packOf, unpack as unpackOf};
+ghost use Rattle.rules.specs.Memory.{packLeaves, unpackLeaves, outputAfter};
+ghost use Rattle.rules.specs.Run.{run};
+ghost use Rattle.panel.specs.Tables.{panelTables};
+use words::check_words;
+use words::length_words;
+use words::run_words;
+use words::tell;
+
+// The verdict on a file.
+#[no_mangle]
+pub extern "C" fn bedrafoly_check(file: &[u8], answer: &mut [u8]) -> u32
+    ensures { λ r. ⌜ (r ≡ codeOf (checkWords (verdictOf (now (file .entry)))))
+        × (now (answer .exit) ≡ wordsInto (checkWords (verdictOf (now (file .entry)))) (now (answer .entry))) ⌝ }
+{
+    tell(check_words(verifier::check(file)), 4, answer)
+}
+
+// A run of function `entry` on argument bytes, in tables of 4,096 cells, 2,048 stack places and 256 frames.
+#[no_mangle]
+pub extern "C" fn bedrafoly_run(
+    file: &[u8],
+    entry: u32,
+    arguments: &[u8],
+    budget: u32,
+    out: &mut [u8],
+    answer: &mut [u8],
+) -> u32
+    ensures { λ r. ⌜ (r ≡ codeOf (runWords (measured (run (now (file .entry)) entry (now (arguments .entry)) budget
+        (panelTables (length (now (out .entry))))))))
+        × (now (out .exit) ≡ outputAfter (now (file .entry)) entry (now (arguments .entry)) budget (panelTables (length (now (out .entry))))
+        (now (out .entry)))
+        × (now (answer .exit) ≡ wordsInto (runWords (measured (run (now (file .entry)) entry (now (arguments .entry)) budget
+        (panelTables (length (now (out .entry))))))) (now (answer .entry))) ⌝ }
+{
+    let mut cells = [0u16; 20480];
+    let mut stack = [0u16; 2048];
+    let ran = lending::run_small(
+        file,
+        entry,
+        arguments,
+        budget,
+        &mut cells,
+        &mut stack,
+        256,
+        out,
+    );
+    tell(run_words(ran), 5, answer)
+}
+
+// A payload packed into blocks.
+#[no_mangle]
+pub extern "C" fn bedrafoly_pack(payload: &[u8], out: &mut [u8], answer: &mut [u8]) -> u32
+    ensures { λ r. ⌜ (r ≡ codeOf (lengthWords (lengthOf (packOf (now (payload .entry)) (length (now (out .entry)))))))
+        × (now (out .exit) ≡ packLeaves (now (payload .entry)) (now (out .entry)))
+        × (now (answer .exit) ≡ wordsInto (lengthWords (lengthOf (packOf (now (payload .entry)) (length (now (out .entry))))))
+        (now (answer .entry))) ⌝ }
+{
+    tell(length_words(packing::pack(payload, out)), 4, answer)
+}
+
+// The payload of a file's blocks.
+#[no_mangle]
+pub extern "C" fn bedrafoly_unpack(file: &[u8], out: &mut [u8], answer: &mut [u8]) -> u32
+    ensures { λ r. ⌜ (r ≡ codeOf (lengthWords (lengthOf (unpackOf (now (file .entry)) (length (now (out .entry)))))))
+        × (now (out .exit) ≡ unpackLeaves (now (file .entry)) (now (out .entry)))
+        × (now (answer .exit) ≡ wordsInto (lengthWords (lengthOf (unpackOf (now (file .entry)) (length (now (out .entry))))))
+        (now (answer .entry))) ⌝ }
+{
+    tell(length_words(packing::unpack(file, out)), 4, answer)
+}

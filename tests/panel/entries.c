@@ -1,0 +1,357 @@
+/* Calls the C entries and compares every word of the answer and every byte lent: entries FOLDER [HOW MANY CALLS].
+ *
+ * FOLDER has the files that files.py writes. Without a number each case of the table is done with answers of four lengths; with
+ * one, some cases are done in turn, so many calls in all, each compared with the first of its kind. */
+#include <stdio.h>
+#include <stdlib.h>
+#include <string.h>
+
+#include "bedrafoly.h"
+
+#define FILLED 0xa5 /* every byte of a lent output or answer before a call */
+#define MOST 0xffffffffu
+
+/* Bytes: a unit so many times, then a tail. */
+struct text {
+    const char *unit;
+    size_t unit_length, times;
+    const char *tail;
+    size_t tail_length;
+};
+#define TEXT(unit, times, tail) {unit, sizeof unit - 1, times, tail, sizeof tail - 1}
+#define NOTHING TEXT("", 0, "")
+
+enum entry { CHECK, RUN, PACK, UNPACK };
+
+static const size_t answer_length[] = {
+    BEDRAFOLY_CHECK_ANSWER, BEDRAFOLY_RUN_ANSWER, BEDRAFOLY_PACK_ANSWER, BEDRAFOLY_UNPACK_ANSWER};
+
+/* A call, the answer's words, and what the output's front holds then: a text, or the bytes of a file. */
+struct call {
+    const char *name;
+    enum entry entry;
+    const char *file;
+    uint32_t function;
+    struct text arguments;
+    uint32_t budget;
+    size_t room;
+    uint32_t answer[5];
+    struct text output;
+    const char *output_file;
+};
+
+/* K1 to K11 and K14 are those of document 01. Its K12 and K13 lend other tables, which cannot be done through these entries: the
+ * numbers 15 to 17 are tried at the ends of the built-in ones. A list of n roots takes 7n + 3 steps in ROOTS, and n + 1 frames. */
+#define CHECKED(name, file, ...) {name, CHECK, file, 0, NOTHING, 0, 0, {__VA_ARGS__, 0}, NOTHING, NULL}
+static const struct call calls[] = {
+    CHECKED("K2", "roots", 0, 3, 6, 1),
+    CHECKED("K3", "k3", BEDRAFOLY_UNBOUNDED_ARGUMENT, 0, 1, 0),
+    CHECKED("K4", "k4", BEDRAFOLY_NOT_COVERED, 0, 8, 0),
+    CHECKED("K5", "k5", BEDRAFOLY_BAD_FLOW, 0, 2, 0),
+    {"K6", RUN, "roots", 0, TEXT("\3\1", 1, "\2"), 1000, 16, {0, 0, 0, 10, 2}, TEXT("", 0, "\5\4"), NULL},
+    {"K7", RUN, "roots", 0, TEXT("", 0, "\2"), 1000, 16, {0, 0, 0, 3, 1}, TEXT("", 0, "\4"), NULL},
+    {"K8", RUN, "roots", 0, TEXT("\3\0", 1, "\2"), 1000, 16, {0, 0, 0, 10, 1}, TEXT("", 0, "\4"), NULL},
+    {"K9 with 9", RUN, "roots", 0, TEXT("\3\1", 1, "\2"), 9, 16, {BEDRAFOLY_BUDGET_SPENT, 0, 6, 9, 0}, NOTHING, NULL},
+    {"K9 with 10", RUN, "roots", 0, TEXT("\3\1", 1, "\2"), 10, 16, {0, 0, 0, 10, 2}, TEXT("", 0, "\5\4"), NULL},
+    {"K10", RUN, "roots", 0, TEXT("\3\1", 1, ""), 1000, 16, {BEDRAFOLY_BAD_ARGUMENT, 2, 0, 0, 0}, NOTHING, NULL},
+    {"K11", RUN, "roots", 0, TEXT("", 0, "\4"), 1000, 16, {BEDRAFOLY_BAD_ARGUMENT, 0, 0, 0, 0}, NOTHING, NULL},
+    {"K14", RUN, "stop", 0, NOTHING, 1, 16, {BEDRAFOLY_GAVE_UP, 0, 0, 1, 0}, NOTHING, NULL},
+    {"K14, no room", RUN, "stop", 0, NOTHING, 1, 0, {BEDRAFOLY_GAVE_UP, 0, 0, 1, 0}, NOTHING, NULL},
+
+    CHECKED("no bytes", "empty", BEDRAFOLY_BAD_LENGTH, 0, 0, 0),
+    CHECKED("511 bytes", "short", BEDRAFOLY_BAD_LENGTH, 0, 0, 0),
+    CHECKED("32,769 bytes", "over", BEDRAFOLY_BAD_LENGTH, 0, 0, 0),
+    CHECKED("a wrong checksum in the last block", "spoilt", BEDRAFOLY_BAD_CHECKSUM, 63, 0, 0),
+    CHECKED("a block of zeros", "blank", BEDRAFOLY_BAD_BLOCK, 0, 0, 0),
+    CHECKED("edition 2", "edition", BEDRAFOLY_BAD_RECORD, 0, 0, 0),
+    CHECKED("a weight of 0", "weight", BEDRAFOLY_BAD_DECLARATION, 0, 3, 0),
+    CHECKED("an unknown type", "signature", BEDRAFOLY_BAD_DECLARATION, 1, 0, 0),
+    CHECKED("an unknown slot", "slot", BEDRAFOLY_BAD_TYPES, 0, 1, 0),
+    CHECKED("16 alternatives", "nested4", 0, 1, 2, 1),
+    CHECKED("32 alternatives", "nested5", BEDRAFOLY_TOO_MANY_FORMS, 0, 6, 0),
+
+    {"run a damaged file", RUN, "spoilt", 0, NOTHING, 9, 9, {BEDRAFOLY_BAD_CHECKSUM, 63, 0, 0, 0}, NOTHING, NULL},
+    {"run no file", RUN, "empty", 0, NOTHING, 9, 9, {BEDRAFOLY_BAD_LENGTH, 0, 0, 0, 0}, NOTHING, NULL},
+    {"run K4", RUN, "k4", 0, TEXT("", 0, "\2"), 9, 9, {BEDRAFOLY_NOT_COVERED, 0, 8, 0, 0}, NOTHING, NULL},
+    {"function 1 of 1", RUN, "roots", 1, NOTHING, 9, 9, {BEDRAFOLY_NO_ENTRY, 1, 0, 0, 0}, NOTHING, NULL},
+    {"the last entry number", RUN, "roots", MOST, NOTHING, 9, 9, {BEDRAFOLY_NO_ENTRY, MOST, 0, 0, 0}, NOTHING, NULL},
+    {"an argument too many", RUN, "stop", 0, TEXT("", 0, "\0"), 9, 9, {BEDRAFOLY_BAD_ARGUMENT, 0, 0, 0, 0}, NOTHING, NULL},
+    {"65,536 arguments", RUN, "tables", 0, TEXT("\0", 65536, ""), 9, 9, {BEDRAFOLY_BAD_ARGUMENT, 65535, 0, 0, 0}, NOTHING, NULL},
+    {"room for 1 of 2", RUN, "roots", 0, TEXT("\3\1", 1, "\2"), MOST, 1, {BEDRAFOLY_OUTPUT_TOO_SHORT, 2, 0, 10, 0}, NOTHING, NULL},
+    {"room for none", RUN, "roots", 0, TEXT("", 0, "\2"), MOST, 0, {BEDRAFOLY_OUTPUT_TOO_SHORT, 1, 0, 3, 0}, NOTHING, NULL},
+    {"room for just 2", RUN, "roots", 0, TEXT("\3\1", 1, "\2"), MOST, 2, {0, 0, 0, 10, 2}, TEXT("", 0, "\5\4"), NULL},
+    {"budget 0", RUN, "roots", 0, TEXT("", 0, "\2"), 0, 9, {BEDRAFOLY_BUDGET_SPENT, 0, 1, 0, 0}, NOTHING, NULL},
+
+    {"256 frames", RUN, "roots", 0, TEXT("\3\1", 255, "\2"), MOST, 256, {0, 0, 0, 1788, 256}, TEXT("\5", 255, "\4"), NULL},
+    {"257 frames", RUN, "roots", 0, TEXT("\3\1", 256, "\2"), MOST, 256, {BEDRAFOLY_OUT_OF_FRAMES, 0, 5, 1279, 0}, NOTHING, NULL},
+    {"2,049 stack places", RUN, "tables", 1, TEXT("", 0, "\0"), MOST, 9, {BEDRAFOLY_OUT_OF_STACK, 1, 16, 2047, 0}, NOTHING, NULL},
+    {"4,096 cells", RUN, "tables", 0, TEXT("\1", 4094, "\0"), MOST, 4096, {0, 0, 0, 2, 4096}, TEXT("\1", 4095, "\0"), NULL},
+    {"4,097 cells", RUN, "tables", 0, TEXT("\1", 4095, "\0"), MOST, 4097, {BEDRAFOLY_OUT_OF_CELLS, 0, 2, 1, 0}, NOTHING, NULL},
+    {"4,097 arguments", RUN, "tables", 0, TEXT("\1", 4096, "\0"), MOST, 9, {BEDRAFOLY_OUT_OF_CELLS, 0, 1, 0, 0}, NOTHING, NULL},
+    {"3,968 levels", RUN, "deep", 0, TEXT("\1", 32, "\0"), MOST, 8000, {0, 0, 0, 8131, 7937}, NOTHING, "deep.result"},
+
+    {"K1", PACK, "seven.payload", 0, NOTHING, 0, 512, {0, 0, 0, 512, 0}, TEXT("\0\0\1\0\7", 1, ""), NULL},
+    {"pack ROOTS", PACK, "roots.payload", 0, NOTHING, 0, 600, {0, 0, 0, 512, 0}, NOTHING, "roots"},
+    {"pack the longest", PACK, "all.payload", 0, NOTHING, 0, 32768, {0, 0, 0, 32768, 0}, NOTHING, "all"},
+    {"pack too short", PACK, "seven.payload", 0, NOTHING, 0, 511, {BEDRAFOLY_OUTPUT_TOO_SHORT, 512, 0, 0, 0}, NOTHING, NULL},
+    {"pack nothing", PACK, "empty", 0, NOTHING, 0, 512, {BEDRAFOLY_BAD_PAYLOAD, 0, 0, 0, 0}, NOTHING, NULL},
+    {"pack too much", PACK, "more.payload", 0, NOTHING, 0, 40000, {BEDRAFOLY_BAD_PAYLOAD, 0, 0, 0, 0}, NOTHING, NULL},
+    {"unpack ROOTS", UNPACK, "roots", 0, NOTHING, 0, 116, {0, 0, 0, 116, 0}, NOTHING, "roots.payload"},
+    {"unpack the longest", UNPACK, "all", 0, NOTHING, 0, 40000, {0, 0, 0, 32256, 0}, NOTHING, "all.payload"},
+    {"unpack too short", UNPACK, "roots", 0, NOTHING, 0, 115, {BEDRAFOLY_OUTPUT_TOO_SHORT, 116, 0, 0, 0}, NOTHING, NULL},
+    {"unpack a damaged file", UNPACK, "spoilt", 0, NOTHING, 0, 40000, {BEDRAFOLY_BAD_CHECKSUM, 63, 0, 0, 0}, NOTHING, NULL},
+};
+#define CALLS (sizeof calls / sizeof calls[0])
+
+static const char *folder;
+
+/* Bytes in a piece of memory of just that length, so that valgrind sees any byte behind it being used. */
+struct bytes {
+    uint8_t *at;
+    size_t length;
+};
+
+static struct bytes lend(size_t length)
+{
+    struct bytes bytes;
+
+    bytes.at = malloc(length > 0 ? length : 1);
+    bytes.length = length;
+    if (bytes.at == NULL) {
+        fputs("no memory\n", stderr);
+        exit(1);
+    }
+    memset(bytes.at, FILLED, length);
+    return bytes;
+}
+
+static struct bytes written(const struct text *text)
+{
+    struct bytes bytes = lend(text->times * text->unit_length + text->tail_length);
+    size_t k;
+
+    for (k = 0; k < text->times; k++)
+        memcpy(bytes.at + k * text->unit_length, text->unit, text->unit_length);
+    memcpy(bytes.at + text->times * text->unit_length, text->tail, text->tail_length);
+    return bytes;
+}
+
+static struct bytes stored(const char *name)
+{
+    static uint8_t room[100000];
+    char path[1000];
+    struct bytes bytes;
+    size_t length;
+    FILE *in;
+
+    snprintf(path, sizeof path, "%s/%s", folder, name);
+    in = fopen(path, "rb");
+    if (in == NULL) {
+        perror(path);
+        exit(1);
+    }
+    length = fread(room, 1, sizeof room, in);
+    fclose(in);
+    bytes = lend(length);
+    memcpy(bytes.at, room, length);
+    return bytes;
+}
+
+/* What is lent to a call. */
+struct lent {
+    struct bytes file, arguments, out, answer;
+};
+
+static struct lent lend_all(const struct call *call, size_t answer)
+{
+    struct lent lent;
+
+    lent.file = stored(call->file);
+    lent.arguments = written(&call->arguments);
+    lent.out = lend(call->room);
+    lent.answer = lend(answer);
+    return lent;
+}
+
+static void give_back(struct lent *lent)
+{
+    free(lent->file.at);
+    free(lent->arguments.at);
+    free(lent->out.at);
+    free(lent->answer.at);
+}
+
+static uint32_t perform(const struct call *call, struct lent *lent)
+{
+    struct bytes file = lent->file, arguments = lent->arguments, out = lent->out, answer = lent->answer;
+
+    switch (call->entry) {
+    case CHECK: return bedrafoly_check(file.at, file.length, answer.at, answer.length);
+    case RUN:
+        return bedrafoly_run(file.at, file.length, call->function, arguments.at, arguments.length, call->budget, out.at, out.length,
+                             answer.at, answer.length);
+    case PACK: return bedrafoly_pack(file.at, file.length, out.at, out.length, answer.at, answer.length);
+    case UNPACK: return bedrafoly_unpack(file.at, file.length, out.at, out.length, answer.at, answer.length);
+    }
+    return MOST;
+}
+
+static int failures;
+
+static void expect(const struct call *call, size_t answer, const char *what, unsigned long expected, unsigned long got)
+{
+    if (expected != got) {
+        printf("FAILED: %s, answer of %lu bytes: %s: ", call->name, (unsigned long)answer, what);
+        printf("expected %lu, got %lu\n", expected, got);
+        failures++;
+    }
+}
+
+static int still_filled(struct bytes bytes, size_t from)
+{
+    for (; from < bytes.length; from++) {
+        if (bytes.at[from] != FILLED)
+            return 0;
+    }
+    return 1;
+}
+
+static void expect_answer(const struct call *call, struct bytes answer)
+{
+    size_t words = answer_length[call->entry] / 4, k;
+
+    if (answer.length < 4 * words)
+        words = 0;
+    for (k = 0; k < words; k++) {
+        const uint8_t *at = answer.at + 4 * k;
+        uint32_t got = at[0] | (uint32_t)at[1] << 8 | (uint32_t)at[2] << 16 | (uint32_t)at[3] << 24;
+        char what[40];
+
+        snprintf(what, sizeof what, "word %lu of the answer", (unsigned long)k);
+        expect(call, answer.length, what, call->answer[k], got);
+    }
+    expect(call, answer.length, "the rest of the answer is as it was", 1, (unsigned long)still_filled(answer, 4 * words));
+}
+
+/* The block that packs the byte 7 is given by its front; the rest is zeros and the checksum 38. */
+static void expect_k1(const struct call *call, struct bytes out)
+{
+    size_t k;
+
+    for (k = 5; k < 512; k++)
+        expect(call, 16, "a byte behind the payload", k == 508 ? 38 : 0, out.at[k]);
+}
+
+static void expect_output(const struct call *call, size_t answer, struct bytes out)
+{
+    struct bytes front = call->output_file != NULL ? stored(call->output_file) : written(&call->output);
+    size_t length = front.length;
+    int same = length <= out.length && memcmp(front.at, out.at, length) == 0;
+
+    expect(call, answer, "the output is right", 1, (unsigned long)same);
+    if (strcmp(call->name, "K1") == 0) {
+        expect_k1(call, out);
+        length = 512;
+    }
+    expect(call, answer, "the rest of the output is as it was", 1, (unsigned long)still_filled(out, length));
+    free(front.at);
+}
+
+/* One call with an answer of the given length. */
+static void try_call(const struct call *call, size_t answer)
+{
+    struct lent lent = lend_all(call, answer), before = lend_all(call, answer);
+
+    expect(call, answer, "returned", call->answer[0], perform(call, &lent));
+    expect_answer(call, lent.answer);
+    expect_output(call, answer, lent.out);
+    expect(call, answer, "the file differs", 0, memcmp(lent.file.at, before.file.at, lent.file.length) != 0);
+    expect(call, answer, "the arguments differ", 0, memcmp(lent.arguments.at, before.arguments.at, lent.arguments.length) != 0);
+    give_back(&lent);
+    give_back(&before);
+}
+
+static void try_table(void)
+{
+    size_t k;
+
+    for (k = 0; k < CALLS; k++) {
+        size_t full = answer_length[calls[k].entry];
+
+        try_call(&calls[k], full);
+        try_call(&calls[k], full - 1);
+        try_call(&calls[k], 0);
+        try_call(&calls[k], full + 3);
+    }
+}
+
+/* Calls of different programs in turn: long and short, with results and without. */
+static const char *const turns[] = {"K6", "256 frames", "K14", "run K4", "2,049 stack places", "4,096 cells", "room for 1 of 2"};
+#define TURNS (sizeof turns / sizeof turns[0])
+
+static const struct call *named(const char *name)
+{
+    size_t k;
+
+    for (k = 0; k < CALLS; k++) {
+        if (strcmp(calls[k].name, name) == 0)
+            return &calls[k];
+    }
+    fprintf(stderr, "no call %s\n", name);
+    exit(1);
+}
+
+static void try_many(long many)
+{
+    struct lent first[TURNS], lent[TURNS];
+    uint32_t returned[TURNS];
+    size_t k;
+    long n;
+
+    for (k = 0; k < TURNS; k++) {
+        const struct call *call = named(turns[k]);
+
+        first[k] = lend_all(call, answer_length[call->entry]);
+        lent[k] = lend_all(call, answer_length[call->entry]);
+        returned[k] = perform(call, &first[k]);
+        expect(call, first[k].answer.length, "returned", call->answer[0], returned[k]);
+        expect_answer(call, first[k].answer);
+        expect_output(call, first[k].answer.length, first[k].out);
+    }
+    for (n = 0; n < many && failures < 10; n++) {
+        const struct call *call = named(turns[k = (size_t)n % TURNS]);
+        size_t answer = lent[k].answer.length;
+
+        memset(lent[k].out.at, FILLED, lent[k].out.length);
+        memset(lent[k].answer.at, FILLED, answer);
+        expect(call, answer, "returned in a later call", returned[k], perform(call, &lent[k]));
+        expect(call, answer, "a later answer differs", 0, memcmp(lent[k].answer.at, first[k].answer.at, answer) != 0);
+        expect(call, answer, "a later output differs", 0, memcmp(lent[k].out.at, first[k].out.at, lent[k].out.length) != 0);
+    }
+    for (k = 0; k < TURNS; k++) {
+        give_back(&first[k]);
+        give_back(&lent[k]);
+    }
+}
+
+int main(int argc, char **argv)
+{
+    long many = argc == 3 ? atol(argv[2]) : 0;
+
+    if (argc < 2 || argc > 3 || (argc == 3 && many < 1)) {
+        fputs("entries FOLDER [HOW MANY CALLS]\n", stderr);
+        return 2;
+    }
+    folder = argv[1];
+    if (many > 0)
+        try_many(many);
+    else
+        try_table();
+    if (failures > 0)
+        return 1;
+    if (many > 0)
+        printf("%ld calls of %lu kinds in turn, each as the first of its kind\n", many, (unsigned long)TURNS);
+    else
+        printf("%lu calls as expected, each with answers of 4 lengths\n", (unsigned long)CALLS);
+    return 0;
+}
