@@ -1,7 +1,5 @@
 // The entries for programs in other languages: numbers and byte slices only. Each returns 0, 100 or document 01's number, and tells the
 // rest in words of 32 bits, where the buffer for them is long enough.
-mod words; // words.rt: an answer in words, and the words in bytes
-
 ghost use mathlib.Core.Path.{_≡_};
 ghost use lib.ListN.{length};
 ghost use Rattle.rules.specs.Answers.{checkWords, lengthWords, lengthOf, runWords, measured, codeOf, wordsInto};

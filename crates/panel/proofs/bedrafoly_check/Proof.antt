@@ -1,7 +1,7 @@
 use mathlib.Core.Path.{ap, _∙_}
 use native.Mathlib.Omega.{arith}
 use Rattle.rules.specs.Answers.{checkWords}
-use Rattle.panel.proofs.WordLaws.{told-words}
+use Rattle.words.proofs.WordLaws.{told-words}
 use borrow.Author.Needs.{needs}
 use Rattle.panel.proofs.bedrafoly_check.Statement.{statement}
 use Rattle.panel.proofs.bedrafoly_check.Tie as tie

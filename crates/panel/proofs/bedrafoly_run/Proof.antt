@@ -3,7 +3,7 @@ use native.Mathlib.Omega.{arith}
 use Rattle.rules.specs.Answers.{runWords, measured}
 use Rattle.rules.specs.Memory.{outputAfter}
 use Rattle.rules.specs.Run.{Lent, run}
-use Rattle.panel.proofs.WordLaws.{told-words}
+use Rattle.words.proofs.WordLaws.{told-words}
 use Rattle.panel.proofs.TableLaws.{tables-lent}
 use borrow.Author.Needs.{needs}
 use Rattle.panel.proofs.bedrafoly_run.Statement.{statement}

@@ -4,8 +4,8 @@ use lib.ListN.{take}
 use Rattle.rules.specs.declared.answers.Verdict.{Verdict}
 use Rattle.rules.specs.Answers.{told, checkWords}
 use borrow.Author.Needs.{needs}
-use Rattle.panel.proofs.words.check_words.Statement.{statement}
-use Rattle.panel.proofs.words.check_words.Tie as tie
+use Rattle.words.proofs.check_words.Statement.{statement}
+use Rattle.words.proofs.check_words.Tie as tie
 
 enum-known-verdict : tie.Need-enum-known-verdict
 enum-known-verdict c = search needs

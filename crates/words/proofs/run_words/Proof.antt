@@ -6,8 +6,8 @@ use lib.ListN.{take}
 use Rattle.rules.specs.declared.answers.Ending.{Ending}
 use Rattle.rules.specs.Answers.{toldEnding, endWords}
 use borrow.Author.Needs.{needs}
-use Rattle.panel.proofs.words.run_words.Statement.{statement}
-use Rattle.panel.proofs.words.run_words.Tie as tie
+use Rattle.words.proofs.run_words.Statement.{statement}
+use Rattle.words.proofs.run_words.Tie as tie
 
 -- the words of an ending after so many steps
 abbrev wordsOf : ℕ → Ending → List ℕ

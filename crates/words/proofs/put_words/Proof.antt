@@ -1,10 +1,10 @@
 -- By the invariant that the words so far stand at the front.
 use Prim.Native.Nat.{_-_, _≤_}
 use native.Mathlib.Omega.{arith}
-use Rattle.panel.proofs.WordLaws.{Fronted, fronted-none, fronted-next, all-fronted, none-fronted}
+use Rattle.words.proofs.WordLaws.{Fronted, fronted-none, fronted-next, all-fronted, none-fronted}
 use borrow.Author.Needs.{needs}
-use Rattle.panel.proofs.words.put_words.Statement.{statement}
-use Rattle.panel.proofs.words.put_words.Tie as tie
+use Rattle.words.proofs.put_words.Statement.{statement}
+use Rattle.words.proofs.put_words.Tie as tie
 
 abbrev Inv-loop : tie.InvT-loop
 Inv-loop n answer₀ words i₀ answer i = (i ≤ n) × Fronted words answer₀ i answer

@@ -1,10 +1,10 @@
 -- Four stores, the low byte first.
 use native.Mathlib.Omega.{arith}
 use lib.ListN.{length-set}
-use Rattle.panel.proofs.WordLaws.{word-put}
+use Rattle.words.proofs.WordLaws.{word-put}
 use borrow.Author.Needs.{needs}
-use Rattle.panel.proofs.words.put_word.Statement.{statement}
-use Rattle.panel.proofs.words.put_word.Tie as tie
+use Rattle.words.proofs.put_word.Statement.{statement}
+use Rattle.words.proofs.put_word.Tie as tie
 
 cast-answer : tie.Need-cast-answer
 cast-answer c = search needs

@@ -4,8 +4,8 @@ use Prim.Native.Nat.{_<_}
 use native.Mathlib.Omega.{arith}
 use Rattle.rules.specs.Base.{Refusal}
 use borrow.Author.Needs.{needs}
-use Rattle.panel.proofs.words.refused.Statement.{statement}
-use Rattle.panel.proofs.words.refused.Tie as tie
+use Rattle.words.proofs.refused.Statement.{statement}
+use Rattle.words.proofs.refused.Tie as tie
 
 numbers-of-requires : tie.Need-numbers-of-requires
 numbers-of-requires c κs = search needs

@@ -1,11 +1,11 @@
-// An answer in words, and the words in bytes.
+// An answer in words of 32 bits, and the words in bytes.
 ghost use mathlib.Core.Path.{_≡_};
 ghost use Prim.Native.Nat.{_+_, _≤_, _<_};
 ghost use lib.ListN.{length, take, getD};
 ghost use Rattle.rules.specs.Answers.{told, toldLength, toldRun, checkWords, lengthWords, runWords, wordsInto};
 ghost use Rattle.rules.specs.Container.{bytes4};
 ghost use Rattle.rules.specs.Memory.{overwritten};
-ghost use Rattle.panel.specs.Words.{RefusedWords};
+ghost use Rattle.words.specs.Words.{RefusedWords};
 use rules::answers::Answer;
 use rules::answers::Ending;
 use rules::answers::Length;
@@ -20,7 +20,7 @@ fn refused(reason: Reason, steps: usize) -> [usize; 5]
     [n.number as usize, n.first, n.second, steps, 0]
 }
 
-// check: four words.
+// For the crates above: check, in four words.
 pub fn check_words(verdict: Verdict) -> [usize; 5]
     ensures { λ w. ⌜ (take 4 w ≡ checkWords (told verdict)) × (getD w 0 0 < 256) ⌝ }
 {
@@ -36,7 +36,7 @@ pub fn check_words(verdict: Verdict) -> [usize; 5]
     }
 }
 
-// pack and unpack: four words.
+// For the crates above: pack and unpack, in four words.
 pub fn length_words(length: Length) -> [usize; 5]
     ensures { λ w. ⌜ (take 4 w ≡ lengthWords (toldLength length)) × (getD w 0 0 < 256) ⌝ }
 {
@@ -46,7 +46,7 @@ pub fn length_words(length: Length) -> [usize; 5]
     }
 }
 
-// run: five words.
+// For the crates above: run, in five words.
 pub fn run_words(answer: Answer) -> [usize; 5]
     ensures { λ w. ⌜ (take 5 w ≡ runWords (toldRun answer)) × (getD w 0 0 < 256) ⌝ }
 {
@@ -85,7 +85,7 @@ fn put_words(words: [usize; 5], n: usize, answer: &mut [u8])
     }
 }
 
-// The first n words told; the answer is the first of them.
+// For the crates above: the first n words told; the answer is the first of them.
 pub fn tell(words: [usize; 5], n: usize, answer: &mut [u8]) -> u32
     requires { ⌜ (n ≤ 5) × (getD words 0 0 < 256) ⌝ }
     ensures { λ r. ⌜ (r ≡ getD words 0 0) × (now (answer .exit) ≡ wordsInto (take n words) (now (answer .entry))) ⌝ }

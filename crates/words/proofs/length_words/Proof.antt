@@ -4,8 +4,8 @@ use lib.ListN.{take}
 use Rattle.rules.specs.declared.answers.Length.{Length}
 use Rattle.rules.specs.Answers.{toldLength, lengthWords}
 use borrow.Author.Needs.{needs}
-use Rattle.panel.proofs.words.length_words.Statement.{statement}
-use Rattle.panel.proofs.words.length_words.Tie as tie
+use Rattle.words.proofs.length_words.Statement.{statement}
+use Rattle.words.proofs.length_words.Tie as tie
 
 enum-known-length : tie.Need-enum-known-length
 enum-known-length c = search needs
