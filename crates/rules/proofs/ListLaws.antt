@@ -18,17 +18,22 @@ use Rattle.rules.specs.Lists.{All, l[], _l∷_, Any, here, there, All2, 
 pub none-some : {A : Type 0} {v : A} {P : Type 0} → _≡_ {A = Option A} none (some v) → P
 none-some p = let z : _≡_ {A = ℕ} 0 1 = cc in absurd (omega arith)
 
+pub some-inj : {A : Type 0} {v w : A} → _≡_ {A = Option A} (some v) (some w) → v ≡ w
+some-inj p = cc
+
 pub at-less : {A : Type 0} (l : List A) (k : ℕ) {v : A} → getElem? l k ≡ some v → k < length l
 at-less [] k e = none-some e
 at-less (y ∷ l) zero e = suc-le-suc zero-le
 at-less (y ∷ l) (suc k) e = suc-le-suc (at-less l k e)
 
+pub getD-element : {A : Type 0} (d : A) (l : List A) (k : ℕ) {v : A} → getElem? l k ≡ some v → getD l k d ≡ v
+getD-element d [] k e = none-some e
+getD-element d (y ∷ l) zero e = some-inj e
+getD-element d (y ∷ l) (suc k) e = getD-element d l k e
+
 pub slot-low : {A : Type 0} (i : ℕ) (xs : List A) {x : A} → slot i xs ≡ some x → (1 ≤ i) × (i ≤ length xs)
 slot-low zero xs e = none-some e
 slot-low (suc d) xs e = (omega arith, at-less xs d e)
-
-pub some-inj : {A : Type 0} {v w : A} → _≡_ {A = Option A} (some v) (some w) → v ≡ w
-some-inj p = cc
 
 pub false-true : false ≡ true → ⊥
 false-true p = let z : _≡_ {A = ℕ} 0 1 = cc in omega arith

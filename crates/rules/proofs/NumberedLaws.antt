@@ -9,6 +9,7 @@ use native.Mathlib.Nat.{zero-add, not-suc-le-zero, add-suc, suc-add, add-zero}
 use lib.ListN.{length, getElem?}
 use Rattle.rules.specs.Base.{Refusal, found, refused, _>>=_, Check, passed, numbered, forEach, each}
 use Rattle.rules.specs.Lists.{All, l[], _l∷_}
+use Rattle.rules.proofs.ListLaws.{at-less, some-inj}
 use Rattle.rules.proofs.TriedLaws.{bind-found, refused-found}
 
 module _ {A : Type 0} (f : ℕ → A) where
@@ -28,6 +29,15 @@ module _ {A : Type 0} (f : ℕ → A) where
   numbered-past zero k i h = refl
   numbered-past (suc n) k zero h = absurd (not-suc-le-zero h)
   numbered-past (suc n) k (suc i) h = numbered-past n (suc k) i (omega arith)
+
+  -- an element of a numbered list is that of its number, and back
+  pub numbered-is : (n i : ℕ) {x : A} → getElem? (numbered f 0 n) i ≡ some x → (i < n) × (x ≡ f i)
+  numbered-is n i e =
+      let h : i < n = subst (λ (m : ℕ). i < m) (numbered-length n 0) (at-less (numbered f 0 n) i e) in
+      (h, some-inj (sym e ∙ numbered-at n 0 i h) ∙ ap f (zero-add i))
+
+  pub numbered-there : (n i : ℕ) → i < n → getElem? (numbered f 0 n) i ≡ some (f i)
+  numbered-there n i h = numbered-at n 0 i h ∙ ap (λ (k : ℕ). some (f k)) (zero-add i)
 
   pub numbered-all : {P : A → Type 0} (n k : ℕ) → ((i : ℕ) → i < n → P (f (k + i))) → All P (numbered f k n)
   unfolding numbered

@@ -2,14 +2,13 @@
 use mathlib.Core.Path.{_≡_, refl, sym, ap, _∙_}
 use mathlib.Core.List.{List, [], _∷_, map}
 use mathlib.Core.Option.{some}
-use mathlib.Core.Bool.{Bool, true, false}
+use mathlib.Core.Bool.{true}
 use Prim.Native.Nat.{ℕ, zero, suc, _+_, _-_, _≤_, _<_, zero-le}
 use native.Mathlib.Omega.{arith}
-use native.Mathlib.Nat.{zero-add}
-use lib.ListN.{length, take, drop, getD, getElem?, length-map, List·getD-map}
+use lib.ListN.{length, take, drop, getD, length-map, List·getD-map}
 use lib.Seq.{getD-take, length-take-le, ext-getD}
 use lib.Dec.{leb, ltb}
-use borrow.Author.Tests.{leb-true, ltb-true, ltb-false}
+use borrow.Author.Tests.{leb-true}
 use Rattle.rules.specs.Base.{refusal, numbered, isZero, all, any, byteAt, wordAt, passed}
 use Rattle.rules.specs.Container.{payload}
 use Rattle.rules.specs.Program.{Constructor, Function, arity, constructor, function}
@@ -21,33 +20,20 @@ use Rattle.rules.specs.Stacks.{slot}
 use Rattle.rules.specs.Flow.{flowOf, flowRight}
 use Rattle.rules.specs.Types.{typesOf, typesRight}
 use Rattle.rules.specs.There.{FunctionThere}
-use Rattle.rules.proofs.ListLaws.{none-some, some-inj, and-left, and-right, all-true, all-getD}
+use Rattle.rules.proofs.ListLaws.{getD-element, and-left, and-right, all-true, all-getD}
 use Rattle.rules.proofs.TriedLaws.{required}
-use Rattle.rules.proofs.NumberedLaws.{numbered-length, numbered-at, numbered-past}
+use Rattle.rules.proofs.NumberedLaws.{numbered-length, numbered-is, numbered-there}
 use Rattle.rules.proofs.RecordLaws.{arguments-length}
 use Rattle.tables.proofs.TableLaws.{byte-small}
 use Rattle.sizing.specs.declared.forms.Bound.{Bound}
 use Rattle.sizing.specs.Forms.{boundIn, noRow, BoundRight}
 use Rattle.sizing.specs.Routines.{NameTables, BoundIs}
 use Rattle.sizing.specs.Walking.{Walking}
-use Rattle.sizing.proofs.ListLaws.{getD-element, element-at}
+use Rattle.sizing.proofs.ListLaws.{element-at}
 use Rattle.sizing.proofs.OwnLaws.{widened-past}
 use Rattle.sizing.proofs.ConvertLaws.{ByteWeights, OwnBound}
 use Rattle.rules.proofs.EachLaws.{each-from-0, each-from-1}
 use Rattle.rules.proofs.Accepted.{FlowsRightly, flows-rightly}
-
--- an element of a numbered list, and back
-numbered-is : {A : Type 0} (f : ℕ → A) (n i : ℕ) {x : A} → getElem? (numbered f 0 n) i ≡ some x → (i < n) × (x ≡ f i)
-numbered-is f n i {x} e = go (ltb i n) refl
-  where
-    go : (t : Bool) → ltb i n ≡ t → (i < n) × (x ≡ f i)
-    go true l =
-        let h = ltb-true i n l in
-        (h, some-inj (sym e ∙ numbered-at f n 0 i h) ∙ ap f (zero-add i))
-    go false l = absurd (none-some (sym (numbered-past f n 0 i (ltb-false i n l)) ∙ e))
-
-numbered-there : {A : Type 0} (f : ℕ → A) (n i : ℕ) → i < n → getElem? (numbered f 0 n) i ≡ some (f i)
-numbered-there f n i h = numbered-at f n 0 i h ∙ ap (λ (k : ℕ). some (f k)) (zero-add i)
 
 -- a list by its elements
 numbered-list : {A B : Type 0} (g : A → B) (d : A) (f : ℕ → A) (xs : List A) (n : ℕ) → n ≤ length xs → ((k : ℕ) → k < n → getD xs k d ≡ f k)

@@ -11,7 +11,6 @@ use lib.ListN.{length, getD, set, take, drop, getElem?}
 use lib.Seq.{take-suc, take-nil, take-suc-set}
 use Rattle.rules.specs.Base.{all}
 use Rattle.rules.specs.Lists.{All, l[], _l∷_}
-use Rattle.rules.proofs.ListLaws.{none-some, some-inj}
 
 pub and-both : (a b : Bool) → a ≡ true → b ≡ true → (a && b) ≡ true
 and-both a b p q = rw (p, q)
@@ -71,11 +70,6 @@ pub all-taken : {A : Type 0} (P : A → Type 0) (d : A) (l : List A) (k : ℕ) �
 all-taken P d l zero h = l[]
 all-taken P d [] (suc k) h = l[]
 all-taken P d (x ∷ l) (suc k) h = _l∷_ {x = x} (h 0 (omega arith)) (all-taken P d l k (λ i m. h (suc i) (omega arith)))
-
-pub getD-element : {A : Type 0} (d : A) (xs : List A) (k : ℕ) {x : A} → getElem? xs k ≡ some x → getD xs k d ≡ x
-getD-element d [] k e = absurd (none-some e)
-getD-element d (y ∷ xs) zero e = some-inj e
-getD-element d (y ∷ xs) (suc k) e = getD-element d xs k e
 
 ---- A store
 
