@@ -66,7 +66,8 @@ enum bedrafoly_number {
     BEDRAFOLY_OUTPUT_TOO_SHORT = 13,
 
     /* The tables and the budget lent to the run. [function, instruction] that was to be next; before the first step [entry, 1].
-     * The operator can raise the budget; the tables are built in, so a smaller job or a thriftier program is needed. */
+     * The operator can raise the budget, and tables that were lent smaller than they are built in; beyond that a smaller job or a
+     * thriftier program is needed. */
 
     /* The budget's steps are taken. */
     BEDRAFOLY_BUDGET_SPENT = 14,
@@ -91,7 +92,7 @@ enum bedrafoly_number {
 #define BEDRAFOLY_PACK_ANSWER 16   /* number, two places, length written (0 for none) */
 #define BEDRAFOLY_UNPACK_ANSWER 16 /* as for pack */
 
-/* The tables of a run, which are built in. */
+/* The tables of a run, which are built in. bedrafoly_run uses all of them; bedrafoly_run_within uses less where it is told so. */
 #define BEDRAFOLY_CELLS 4096
 #define BEDRAFOLY_STACK 2048
 #define BEDRAFOLY_FRAMES 256
@@ -109,6 +110,13 @@ uint32_t bedrafoly_check(const uint8_t *file, size_t file_length, uint8_t *answe
  * `out`; else 100, or 1 to 17, with `out` left as it was. What is behind the result in `out` is left as it was too. */
 uint32_t bedrafoly_run(const uint8_t *file, size_t file_length, uint32_t entry, const uint8_t *arguments, size_t arguments_length,
                        uint32_t budget, uint8_t *out, size_t out_length, uint8_t *answer, size_t answer_length);
+
+/* Runs as bedrafoly_run does, in the first `cells` cells, `stack` stack places and `frames` frames of the built-in tables: to find
+ * out how little a program needs, or to run it as a smaller unit would. 0 lends none of a table, and a number above the built-in
+ * one all of it: with BEDRAFOLY_CELLS, BEDRAFOLY_STACK and BEDRAFOLY_FRAMES, or more, this is bedrafoly_run. */
+uint32_t bedrafoly_run_within(const uint8_t *file, size_t file_length, uint32_t entry, const uint8_t *arguments,
+                              size_t arguments_length, uint32_t budget, uint32_t cells, uint32_t stack, uint32_t frames,
+                              uint8_t *out, size_t out_length, uint8_t *answer, size_t answer_length);
 
 /* Stores a payload in blocks at the front of `out`: 0, 18 or 13. It does not check the program. */
 uint32_t bedrafoly_pack(const uint8_t *payload, size_t payload_length, uint8_t *out, size_t out_length, uint8_t *answer,

@@ -9,7 +9,7 @@
 
 #define CARD "; the card is damaged or holds no program, and a good copy of the program stored anew mends it"
 #define AUTHOR "; only the program's author can mend it"
-#define TABLE "; the tables are built in, so the operator must give smaller arguments, or the author a program that needs less"
+#define LESS "so the operator must give smaller arguments, or the author a program that needs less"
 
 /* What the two places of a number are. */
 enum places { NONE, BLOCK, OFFSET, CONSTRUCTOR, SIGNATURE, ARGUMENT, INSTRUCTION, ENTRY, BYTE, NEEDED };
@@ -45,11 +45,6 @@ static const struct meaning {
      "the operator must give other arguments"},
     {BEDRAFOLY_OUTPUT_TOO_SHORT, ANY, NEEDED,
      "the panel has room for " TEXT(OUTPUT_ROOM) "; the operator must give smaller arguments, or use a panel with more room"},
-    {BEDRAFOLY_BUDGET_SPENT, ANY, INSTRUCTION,
-     "all steps of the budget are taken; the operator can give more, up to 4294967295, by --budget"},
-    {BEDRAFOLY_OUT_OF_CELLS, ANY, INSTRUCTION, "the " TEXT(BEDRAFOLY_CELLS) " cells do not suffice" TABLE},
-    {BEDRAFOLY_OUT_OF_STACK, ANY, INSTRUCTION, "the " TEXT(BEDRAFOLY_STACK) " stack places do not suffice" TABLE},
-    {BEDRAFOLY_OUT_OF_FRAMES, ANY, INSTRUCTION, "the " TEXT(BEDRAFOLY_FRAMES) " frames do not suffice" TABLE},
     {BEDRAFOLY_BAD_PAYLOAD, ANY, NONE,
      "the payload is empty or over " TEXT(BEDRAFOLY_LONGEST_PAYLOAD) " bytes; the operator must give another one"},
     {BEDRAFOLY_GAVE_UP, ANY, NONE,
@@ -74,19 +69,38 @@ static void print_places(enum places places, uint32_t first, uint32_t second)
     }
 }
 
-void explain(uint32_t number, uint32_t first, uint32_t second)
+/* A loan that was made smaller can be made larger again; of the largest there is no more. */
+static void print_loan(const struct loan *loan, uint32_t lent)
+{
+    unsigned long given = lent, most = loan->most;
+    const char *why = loan == &loans[BUDGET] ? "no budget is larger" : "the tables are built in";
+
+    if (given < most)
+        fprintf(stderr, "%s %lu does not suffice; the operator can lend more %s, up to %lu", loan->option, given, loan->name, most);
+    else
+        fprintf(stderr, "the %lu %s do not suffice; %s, " LESS, most, loan->name, why);
+}
+
+void explain(uint32_t number, uint32_t first, uint32_t second, const uint32_t *lent)
 {
     size_t k;
 
+    fputs("panel: ", stderr);
+    if (lent != NULL && number >= BEDRAFOLY_BUDGET_SPENT && number <= BEDRAFOLY_OUT_OF_FRAMES) {
+        k = number - BEDRAFOLY_BUDGET_SPENT;
+        print_places(INSTRUCTION, first, second);
+        print_loan(&loans[k], lent[k]);
+        fputs(".\n", stderr);
+        return;
+    }
     for (k = 0; k < sizeof meanings / sizeof meanings[0]; k++) {
         const struct meaning *meaning = &meanings[k];
 
         if (meaning->number == number && (meaning->first == ANY || meaning->first == first)) {
-            fputs("panel: ", stderr);
             print_places(meaning->places, first, second);
             fprintf(stderr, "%s.\n", meaning->text);
             return;
         }
     }
-    fprintf(stderr, "panel: the library gave the number %lu, which this panel does not know.\n", (unsigned long)number);
+    fprintf(stderr, "the library gave the number %lu, which this panel does not know.\n", (unsigned long)number);
 }

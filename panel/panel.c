@@ -55,10 +55,11 @@ static void say_refused(uint32_t number)
     say("%s %lu %lu %lu\n", how, (unsigned long)number, word(1), word(2));
 }
 
-static int end_refused(uint32_t number)
+/* Ends a command by what its number means; only a run was lent something. */
+static int end_refused(uint32_t number, const uint32_t *lent)
 {
     flush(); /* the answer comes before its meaning */
-    explain(number, (uint32_t)word(1), (uint32_t)word(2));
+    explain(number, (uint32_t)word(1), (uint32_t)word(2), lent);
     return REFUSED;
 }
 
@@ -73,7 +74,7 @@ static int check(int count, char **words)
     number = bedrafoly_check(input, length, answer, BEDRAFOLY_CHECK_ANSWER);
     if (number != BEDRAFOLY_DONE) {
         say_refused(number);
-        return end_refused(number);
+        return end_refused(number, NULL);
     }
     say("accepted %lu %lu %lu\n", word(1), word(2), word(3));
     return GOOD;
@@ -100,14 +101,14 @@ static int run(int count, char **words)
         return UNUSABLE;
     if (read_file(asked.file, input, sizeof input, &length) != 0)
         return UNUSABLE;
-    number = bedrafoly_run(input, length, asked.entry, arguments, asked.length, asked.budget, output, sizeof output, answer,
-                           BEDRAFOLY_RUN_ANSWER);
+    number = bedrafoly_run_within(input, length, asked.entry, arguments, asked.length, asked.lent[BUDGET], asked.lent[CELLS],
+                                  asked.lent[STACK], asked.lent[FRAMES], output, sizeof output, answer, BEDRAFOLY_RUN_ANSWER);
     if (number == BEDRAFOLY_DONE)
         say_result(word(4));
     else
         say_refused(number);
     say("steps %lu\n", word(3));
-    return number == BEDRAFOLY_DONE ? GOOD : end_refused(number);
+    return number == BEDRAFOLY_DONE ? GOOD : end_refused(number, asked.lent);
 }
 
 /* Ends pack or unpack: the output's front goes to a file. */
@@ -115,7 +116,7 @@ static int store(uint32_t number, const char *done, const char *path)
 {
     if (number != BEDRAFOLY_DONE) {
         say_refused(number);
-        return end_refused(number);
+        return end_refused(number, NULL);
     }
     if (write_file(path, output, word(3)) != 0)
         return UNUSABLE;
@@ -145,15 +146,22 @@ static int unpack(int count, char **words)
 
 static int help(void)
 {
-    say("panel check FILE                                 the verdict on a program\n"
-        "panel run FILE ENTRY [ARGUMENTS..] [--budget N]  run its function number ENTRY\n"
-        "panel pack PAYLOAD FILE                          store a payload in blocks\n"
-        "panel unpack FILE PAYLOAD                        take the payload out of the blocks\n"
+    int k;
+
+    say("panel check FILE                              the verdict on a program\n"
+        "panel run FILE ENTRY [ARGUMENTS..] [OPTIONS]  run its function number ENTRY\n"
+        "panel pack PAYLOAD FILE                       store a payload in blocks\n"
+        "panel unpack FILE PAYLOAD                     take the payload out of the blocks\n"
         "\n");
-    say("ARGUMENTS are constructor numbers in prefix order, 0 to 255, with spaces or commas\n"
-        "between them, or one @FILE that holds them as bytes. N is the most steps that the\n"
-        "run may take; without it, 4294967295.\n"
+    say("ARGUMENTS are constructor numbers, 0 to 255, in prefix order: each value's constructor,\n"
+        "then its arguments. Spaces or commas stand between them, as in 'panel run FILE 0 3 1 2';\n"
+        "or they are one @FILE that holds them as bytes.\n"
         "\n");
+    say("OPTIONS lend the run less than the most, to see how little a program needs or how it\n"
+        "does in a smaller unit:\n");
+    for (k = 0; k < LOANS; k++)
+        say("  %-8s N  N of the %lu %s%s\n", loans[k].option, (unsigned long)loans[k].most, loans[k].name, loans[k].use);
+    say("\n");
     say("check says 'accepted' and how many types, constructors and functions there are. run\n"
         "says 'result' with its constructor numbers, its length and the steps taken, or 'gave\n"
         "up' where the program stopped by itself. pack and unpack say how many bytes were\n"

@@ -2,10 +2,18 @@
 #include <stdio.h>
 #include <string.h>
 
+#include "bedrafoly.h"
 #include "panel.h"
 
 #define SPACES " \t\r\n"
 #define MOST_32 4294967295u
+
+const struct loan loans[LOANS] = {
+    {"--budget", MOST_32, "steps", " that a run may take"},
+    {"--cells", BEDRAFOLY_CELLS, "cells", ": each argument byte and each build takes one"},
+    {"--stack", BEDRAFOLY_STACK, "stack places", ": the heights of all frames, added up"},
+    {"--frames", BEDRAFOLY_FRAMES, "frames", ": one for ENTRY and one for each call under way"},
+};
 
 /* Reads decimal digits and nothing else, no number above `most`. Gives 1 where that is what stands there. */
 static int read_number(const char *text, size_t length, uint32_t most, uint32_t *number)
@@ -30,11 +38,11 @@ static int no_number(const char *what, const char *text, size_t length, uint32_t
     return UNUSABLE;
 }
 
-static int read_word(const char *what, const char *word, uint32_t *number)
+static int read_word(const char *what, const char *word, uint32_t most, uint32_t *number)
 {
     size_t length = strlen(word);
 
-    return read_number(word, length, MOST_32, number) ? 0 : no_number(what, word, length, MOST_32);
+    return read_number(word, length, most, number) ? 0 : no_number(what, word, length, most);
 }
 
 /* Argument bytes as they are read from words. */
@@ -97,35 +105,49 @@ static int read_arguments(struct reading *reading, const char *word)
     return read_file(word + 1, reading->bytes, reading->room, &reading->length);
 }
 
-/* Reads the number behind --budget. */
-static int read_budget(const char *word, int *given, uint32_t *budget)
+/* Options as they are read: what is lent, and which were given. */
+struct lending {
+    uint32_t *lent;
+    int given[LOANS];
+};
+
+/* Reads an option and the word behind it, which is NULL where there is none. */
+static int read_option(struct lending *lending, const char *option, const char *word)
 {
-    if (word == NULL || *given) {
-        fputs(word == NULL ? "panel: --budget needs a number behind it\n" : "panel: --budget is given twice\n", stderr);
-        return UNUSABLE;
+    int k = 0;
+
+    while (k < LOANS && strcmp(option, loans[k].option) != 0)
+        k++;
+    if (k == LOANS)
+        fprintf(stderr, "panel: unknown option '%s'; 'panel --help' says more\n", option);
+    else if (lending->given[k])
+        fprintf(stderr, "panel: %s is given twice\n", option);
+    else if (word == NULL)
+        fprintf(stderr, "panel: %s needs a number behind it\n", option);
+    else {
+        lending->given[k] = 1;
+        return read_word(option, word, loans[k].most, &lending->lent[k]);
     }
-    *given = 1;
-    return read_word("the budget", word, budget);
+    return UNUSABLE;
 }
 
 int read_run_words(int count, char **words, struct run_words *run, uint8_t *bytes, size_t room)
 {
     struct reading reading = {bytes, room, 0, 0, 0, 0};
-    int k, plain = 0, budget_given = 0, wrong = 0;
+    struct lending lending = {run->lent, {0}};
+    int k, plain = 0, wrong = 0;
 
-    run->budget = MOST_32;
+    for (k = 0; k < LOANS; k++)
+        run->lent[k] = loans[k].most;
     for (k = 0; k < count && !wrong; k++) {
-        if (strcmp(words[k], "--budget") == 0) {
+        if (strncmp(words[k], "--", 2) == 0) {
+            wrong = read_option(&lending, words[k], k + 1 < count ? words[k + 1] : NULL);
             k++;
-            wrong = read_budget(k < count ? words[k] : NULL, &budget_given, &run->budget);
-        } else if (strncmp(words[k], "--", 2) == 0) {
-            fprintf(stderr, "panel: unknown option '%s'\n", words[k]);
-            wrong = UNUSABLE;
         } else if (plain == 0) {
             run->file = words[k];
             plain++;
         } else if (plain == 1) {
-            wrong = read_word("ENTRY", words[k], &run->entry);
+            wrong = read_word("ENTRY", words[k], MOST_32, &run->entry);
             plain++;
         } else {
             wrong = read_arguments(&reading, words[k]);

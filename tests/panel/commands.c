@@ -1,16 +1,16 @@
-/* Answers test commands by the entries of the library, one line a command, as docs/COMMANDS.md has them, but for the last word of a
-   run's answer: whether the tables were wiped cannot be seen from here. A run's table lengths are not read, since the entries have
-   tables of their own. */
+/* Answers test commands by the entries of the library, one line a command, as docs/COMMANDS.md has them, but for the last word of
+   a run's answer: whether the tables were wiped cannot be seen from here. A run is lent no more than is built in of a table. An
+   output that was changed where it should not be is answered `output changed`. */
 #include "bedrafoly.h"
 
 #include <stdio.h>
 #include <stdlib.h>
 #include <string.h>
 
-enum { LINE = 400000, BYTES = 140000, WORDS = 9 };
+enum { LINE = 400000, BYTES = 140000, WORDS = 9, BEHIND = 64, FILLED = 0xa5 };
 
 static char line[LINE];
-static uint8_t first[BYTES], second[BYTES], out[BYTES], answer[BEDRAFOLY_RUN_ANSWER];
+static uint8_t first[BYTES], second[BYTES], out[BYTES + BEHIND], answer[BEDRAFOLY_RUN_ANSWER];
 
 static unsigned long word(int k)
 {
@@ -18,17 +18,42 @@ static unsigned long word(int k)
     return b[0] | (unsigned long)b[1] << 8 | (unsigned long)b[2] << 16 | (unsigned long)b[3] << 24;
 }
 
+static uint8_t digit(char c)
+{
+    if ((c < '0' || c > '9') && (c < 'a' || c > 'f'))
+        exit(1);
+    return (uint8_t)(c <= '9' ? c - '0' : c - 'a' + 10);
+}
+
 /* Bytes from hexadecimal digits, `-` for none. */
 static size_t bytes(const char *text, uint8_t *to)
 {
     size_t n = strcmp(text, "-") == 0 ? 0 : strlen(text) / 2;
-    for (size_t i = 0; i < n; i++) {
-        unsigned x;
-        if (n > BYTES || sscanf(text + 2 * i, "%2x", &x) != 1)
-            exit(1);
-        to[i] = (uint8_t)x;
-    }
+    if (n > BYTES)
+        exit(1);
+    for (size_t i = 0; i < n; i++)
+        to[i] = (uint8_t)(16 * digit(text[2 * i]) + digit(text[2 * i + 1]));
     return n;
+}
+
+/* An output that is filled, so that it shows what was changed. */
+static size_t lend_output(const char *word)
+{
+    size_t room = strtoul(word, NULL, 10);
+    if (room > BYTES)
+        exit(1);
+    memset(out, FILLED, room + BEHIND);
+    return room;
+}
+
+/* Whether all is filled behind the first n bytes of an output, and for some bytes behind its end. */
+static int kept(size_t n, size_t room)
+{
+    for (size_t i = n; i < room + BEHIND; i++) {
+        if (out[i] != FILLED)
+            return 0;
+    }
+    return 1;
 }
 
 static void say_bytes(const char *kind, size_t n)
@@ -54,10 +79,11 @@ static void check(char **words)
 
 static void convert(char **words, int packs)
 {
-    size_t n = bytes(words[1], first), room = strtoul(words[2], NULL, 10);
-    if (room > BYTES)
-        exit(1);
-    if ((packs ? bedrafoly_pack : bedrafoly_unpack)(first, n, out, room, answer, BEDRAFOLY_PACK_ANSWER) == 0)
+    size_t n = bytes(words[1], first), room = lend_output(words[2]);
+    int done = (packs ? bedrafoly_pack : bedrafoly_unpack)(first, n, out, room, answer, BEDRAFOLY_PACK_ANSWER) == 0;
+    if (!kept(done ? word(3) : 0, room))
+        printf("output changed");
+    else if (done)
         say_bytes(packs ? "packed" : "unpacked", word(3));
     else
         say_refused();
@@ -65,20 +91,20 @@ static void convert(char **words, int packs)
 
 static void run(char **words)
 {
-    size_t n = bytes(words[1], first), m = bytes(words[3], second), room = strtoul(words[8], NULL, 10);
-    uint32_t entry = (uint32_t)strtoul(words[2], NULL, 10), budget = (uint32_t)strtoul(words[4], NULL, 10);
-    if (room > BYTES)
-        exit(1);
-    switch (bedrafoly_run(first, n, entry, second, m, budget, out, room, answer, BEDRAFOLY_RUN_ANSWER)) {
-    case BEDRAFOLY_DONE:
+    size_t n = bytes(words[1], first), m = bytes(words[3], second), room = lend_output(words[8]);
+    uint32_t number[WORDS];
+    for (int k = 2; k < WORDS; k++)
+        number[k] = (uint32_t)strtoul(words[k], NULL, 10);
+    bedrafoly_run_within(first, n, number[2], second, m, number[4], number[5] / 5, number[6], number[7], out, room, answer,
+                         BEDRAFOLY_RUN_ANSWER);
+    if (!kept(word(4), room))
+        printf("output changed");
+    else if (word(0) == BEDRAFOLY_DONE)
         say_bytes("figure", word(4));
-        break;
-    case BEDRAFOLY_GAVE_UP:
+    else if (word(0) == BEDRAFOLY_GAVE_UP)
         printf("gaveup");
-        break;
-    default:
+    else
         say_refused();
-    }
     printf(" %lu", word(3));
 }
 

@@ -1,13 +1,16 @@
-/* Calls the C entries and compares every word of the answer and every byte lent: entries FOLDER [HOW MANY CALLS].
+/* Calls the C entries and compares every word of the answer and every byte lent: entries FOLDER.
  *
- * FOLDER has the files that files.py writes. Without a number each case of the table is done with answers of four lengths; with
- * one, some cases are done in turn, so many calls in all, each compared with the first of its kind. */
+ * FOLDER has the files that files.py writes. Each call of the tables is done with answers of four lengths, and each run also in all
+ * tables by other numbers. The deepest result is written on a small stack too. */
+#define _XOPEN_SOURCE 700
+#include <pthread.h>
 #include <stdio.h>
 #include <stdlib.h>
 #include <string.h>
 
 #include "bedrafoly.h"
 
+#define SMALL_STACK (512 * 1024) /* bytes, in which the deepest result has to fit */
 #define FILLED 0xa5 /* every byte of a lent output or answer before a call */
 #define MOST 0xffffffffu
 
@@ -40,8 +43,8 @@ struct call {
     const char *output_file;
 };
 
-/* K1 to K11 and K14 are those of document 01. Its K12 and K13 lend other tables, which cannot be done through these entries: the
- * numbers 15 to 17 are tried at the ends of the built-in ones. A list of n roots takes 7n + 3 steps in ROOTS, and n + 1 frames. */
+/* K1 to K14 are those of document 01; K12 and K13, which lend smaller tables, stand below. The numbers 15 to 17 are tried here at
+ * the ends of the built-in tables. A list of n roots takes 7n + 3 steps in ROOTS, and n + 1 frames. */
 #define CHECKED(name, file, ...) {name, CHECK, file, 0, NOTHING, 0, 0, {__VA_ARGS__, 0}, NOTHING, NULL}
 static const struct call calls[] = {
     CHECKED("K2", "roots", 0, 3, 6, 1),
@@ -88,7 +91,7 @@ static const struct call calls[] = {
     {"4,096 cells", RUN, "tables", 0, TEXT("\1", 4094, "\0"), MOST, 4096, {0, 0, 0, 2, 4096}, TEXT("\1", 4095, "\0"), NULL},
     {"4,097 cells", RUN, "tables", 0, TEXT("\1", 4095, "\0"), MOST, 4097, {BEDRAFOLY_OUT_OF_CELLS, 0, 2, 1, 0}, NOTHING, NULL},
     {"4,097 arguments", RUN, "tables", 0, TEXT("\1", 4096, "\0"), MOST, 9, {BEDRAFOLY_OUT_OF_CELLS, 0, 1, 0, 0}, NOTHING, NULL},
-    {"3,968 levels", RUN, "deep", 0, TEXT("\1", 32, "\0"), MOST, 8000, {0, 0, 0, 8131, 7937}, NOTHING, "deep.result"},
+    {"4,095 levels", RUN, "deep", 0, NOTHING, MOST, 8191, {0, 0, 0, 8402, 8191}, NOTHING, "deep.result"},
 
     {"K1", PACK, "seven.payload", 0, NOTHING, 0, 512, {0, 0, 0, 512, 0}, TEXT("\0\0\1\0\7", 1, ""), NULL},
     {"pack ROOTS", PACK, "roots.payload", 0, NOTHING, 0, 600, {0, 0, 0, 512, 0}, NOTHING, "roots"},
@@ -102,6 +105,58 @@ static const struct call calls[] = {
     {"unpack a damaged file", UNPACK, "spoilt", 0, NOTHING, 0, 40000, {BEDRAFOLY_BAD_CHECKSUM, 63, 0, 0, 0}, NOTHING, NULL},
 };
 #define CALLS (sizeof calls / sizeof calls[0])
+
+/* What is lent of the built-in tables. */
+struct tables {
+    uint32_t cells, stack, frames;
+};
+#define CELLS BEDRAFOLY_CELLS
+#define STACK BEDRAFOLY_STACK
+#define FRAMES BEDRAFOLY_FRAMES
+
+/* All of them, said in three ways. */
+static const struct tables all[] = {{CELLS, STACK, FRAMES}, {CELLS + 1, STACK + 1, FRAMES + 1}, {MOST, MOST, MOST}};
+#define ALL (sizeof all / sizeof all[0])
+
+/* Runs of the calls above in other tables. Where the answer is a result, the output is as there. */
+static const struct other_run {
+    const char *name;
+    const char *of;
+    struct tables tables;
+    uint32_t answer[5];
+} other_runs[] = {
+    {"K12 with 5", "K6", {CELLS, 5, FRAMES}, {BEDRAFOLY_OUT_OF_STACK, 0, 11, 7, 0}},
+    {"K12 with 6", "K6", {CELLS, 6, FRAMES}, {0, 0, 0, 10, 2}},
+    {"K13 with 4", "K6", {4, STACK, FRAMES}, {BEDRAFOLY_OUT_OF_CELLS, 0, 6, 9, 0}},
+    {"K13 with 5", "K6", {5, STACK, FRAMES}, {0, 0, 0, 10, 2}},
+    {"K6 in one frame", "K6", {CELLS, STACK, 1}, {BEDRAFOLY_OUT_OF_FRAMES, 0, 5, 4, 0}},
+    {"K6 in the least", "K6", {5, 6, 2}, {0, 0, 0, 10, 2}},
+    {"K7 in 1 cell", "K7", {1, STACK, FRAMES}, {BEDRAFOLY_OUT_OF_CELLS, 0, 11, 2, 0}},
+    {"K7 in 2 cells", "K7", {2, STACK, FRAMES}, {0, 0, 0, 3, 1}},
+    {"K9 with 9, in 4 cells", "K9 with 9", {4, STACK, FRAMES}, {BEDRAFOLY_BUDGET_SPENT, 0, 6, 9, 0}},
+    {"room for 1 of 2, in the least", "room for 1 of 2", {5, 6, 2}, {BEDRAFOLY_OUTPUT_TOO_SHORT, 2, 0, 10, 0}},
+
+    /* For loading 17 comes before 16 and that before 15; what is wrong with the call comes before all of them. */
+    {"no cell", "K7", {0, STACK, FRAMES}, {BEDRAFOLY_OUT_OF_CELLS, 0, 1, 0, 0}},
+    {"no stack place", "K7", {CELLS, 0, FRAMES}, {BEDRAFOLY_OUT_OF_STACK, 0, 1, 0, 0}},
+    {"no frame", "K7", {CELLS, STACK, 0}, {BEDRAFOLY_OUT_OF_FRAMES, 0, 1, 0, 0}},
+    {"no cell and no stack place", "K7", {0, 0, FRAMES}, {BEDRAFOLY_OUT_OF_STACK, 0, 1, 0, 0}},
+    {"nothing", "K7", {0, 0, 0}, {BEDRAFOLY_OUT_OF_FRAMES, 0, 1, 0, 0}},
+    {"K11 in nothing", "K11", {0, 0, 0}, {BEDRAFOLY_BAD_ARGUMENT, 0, 0, 0, 0}},
+    {"K14 in one frame alone", "K14", {0, 0, 1}, {BEDRAFOLY_GAVE_UP, 0, 0, 1, 0}},
+    {"K14 in nothing", "K14", {0, 0, 0}, {BEDRAFOLY_OUT_OF_FRAMES, 0, 1, 0, 0}},
+
+    {"256 frames, 255 lent", "256 frames", {CELLS, STACK, 255}, {BEDRAFOLY_OUT_OF_FRAMES, 0, 5, 1274, 0}},
+    {"4,096 cells, 4,095 lent", "4,096 cells", {4095, STACK, FRAMES}, {BEDRAFOLY_OUT_OF_CELLS, 0, 2, 1, 0}},
+    {"2,049 stack places, 2,047 lent", "2,049 stack places", {CELLS, 2047, FRAMES}, {BEDRAFOLY_OUT_OF_STACK, 1, 15, 2046, 0}},
+
+    /* Numbers that would be small if their upper bits got lost: 4 cells, 5 places, 1 frame, and 5 times 858,993,460 is 2^32 + 4. */
+    {"65,540 cells", "K6", {65540, STACK, FRAMES}, {0, 0, 0, 10, 2}},
+    {"858,993,460 cells", "K6", {858993460, STACK, FRAMES}, {0, 0, 0, 10, 2}},
+    {"65,541 stack places", "K6", {CELLS, 65541, FRAMES}, {0, 0, 0, 10, 2}},
+    {"65,537 frames", "K6", {CELLS, STACK, 65537}, {0, 0, 0, 10, 2}},
+};
+#define OTHER_RUNS (sizeof other_runs / sizeof other_runs[0])
 
 static const char *folder;
 
@@ -181,13 +236,18 @@ static void give_back(struct lent *lent)
     free(lent->answer.at);
 }
 
-static uint32_t perform(const struct call *call, struct lent *lent)
+/* Does a call: a run in the tables, or where there are none by the entry that has all of them. */
+static uint32_t perform(const struct call *call, const struct tables *tables, struct lent *lent)
 {
     struct bytes file = lent->file, arguments = lent->arguments, out = lent->out, answer = lent->answer;
 
     switch (call->entry) {
     case CHECK: return bedrafoly_check(file.at, file.length, answer.at, answer.length);
     case RUN:
+        if (tables != NULL)
+            return bedrafoly_run_within(file.at, file.length, call->function, arguments.at, arguments.length, call->budget,
+                                        tables->cells, tables->stack, tables->frames, out.at, out.length, answer.at,
+                                        answer.length);
         return bedrafoly_run(file.at, file.length, call->function, arguments.at, arguments.length, call->budget, out.at, out.length,
                              answer.at, answer.length);
     case PACK: return bedrafoly_pack(file.at, file.length, out.at, out.length, answer.at, answer.length);
@@ -258,11 +318,11 @@ static void expect_output(const struct call *call, size_t answer, struct bytes o
 }
 
 /* One call with an answer of the given length. */
-static void try_call(const struct call *call, size_t answer)
+static void try_call(const struct call *call, const struct tables *tables, size_t answer)
 {
     struct lent lent = lend_all(call, answer), before = lend_all(call, answer);
 
-    expect(call, answer, "returned", call->answer[0], perform(call, &lent));
+    expect(call, answer, "returned", call->answer[0], perform(call, tables, &lent));
     expect_answer(call, lent.answer);
     expect_output(call, answer, lent.out);
     expect(call, answer, "the file differs", 0, memcmp(lent.file.at, before.file.at, lent.file.length) != 0);
@@ -271,23 +331,15 @@ static void try_call(const struct call *call, size_t answer)
     give_back(&before);
 }
 
-static void try_table(void)
+static void try_answers(const struct call *call, const struct tables *tables)
 {
-    size_t k;
+    size_t full = answer_length[call->entry];
 
-    for (k = 0; k < CALLS; k++) {
-        size_t full = answer_length[calls[k].entry];
-
-        try_call(&calls[k], full);
-        try_call(&calls[k], full - 1);
-        try_call(&calls[k], 0);
-        try_call(&calls[k], full + 3);
-    }
+    try_call(call, tables, full);
+    try_call(call, tables, full - 1);
+    try_call(call, tables, 0);
+    try_call(call, tables, full + 3);
 }
-
-/* Calls of different programs in turn: long and short, with results and without. */
-static const char *const turns[] = {"K6", "256 frames", "K14", "run K4", "2,049 stack places", "4,096 cells", "room for 1 of 2"};
-#define TURNS (sizeof turns / sizeof turns[0])
 
 static const struct call *named(const char *name)
 {
@@ -301,57 +353,58 @@ static const struct call *named(const char *name)
     exit(1);
 }
 
-static void try_many(long many)
+static void try_other_run(const struct other_run *run)
 {
-    struct lent first[TURNS], lent[TURNS];
-    uint32_t returned[TURNS];
-    size_t k;
-    long n;
+    static const struct text nothing = NOTHING;
+    struct call call = *named(run->of);
 
-    for (k = 0; k < TURNS; k++) {
-        const struct call *call = named(turns[k]);
+    call.name = run->name;
+    memcpy(call.answer, run->answer, sizeof call.answer);
+    if (call.answer[0] != BEDRAFOLY_DONE)
+        call.output = nothing;
+    try_answers(&call, &run->tables);
+}
 
-        first[k] = lend_all(call, answer_length[call->entry]);
-        lent[k] = lend_all(call, answer_length[call->entry]);
-        returned[k] = perform(call, &first[k]);
-        expect(call, first[k].answer.length, "returned", call->answer[0], returned[k]);
-        expect_answer(call, first[k].answer);
-        expect_output(call, first[k].answer.length, first[k].out);
-    }
-    for (n = 0; n < many && failures < 10; n++) {
-        const struct call *call = named(turns[k = (size_t)n % TURNS]);
-        size_t answer = lent[k].answer.length;
+static void *try_deepest(void *unused)
+{
+    try_answers(named("4,095 levels"), NULL);
+    return unused;
+}
 
-        memset(lent[k].out.at, FILLED, lent[k].out.length);
-        memset(lent[k].answer.at, FILLED, answer);
-        expect(call, answer, "returned in a later call", returned[k], perform(call, &lent[k]));
-        expect(call, answer, "a later answer differs", 0, memcmp(lent[k].answer.at, first[k].answer.at, answer) != 0);
-        expect(call, answer, "a later output differs", 0, memcmp(lent[k].out.at, first[k].out.at, lent[k].out.length) != 0);
+/* The deepest result on a small stack: where that does not suffice, the test ends by a signal. */
+static void try_small_stack(void)
+{
+    pthread_attr_t attributes;
+    pthread_t thread;
+
+    if (pthread_attr_init(&attributes) != 0 || pthread_attr_setstacksize(&attributes, SMALL_STACK) != 0 ||
+        pthread_create(&thread, &attributes, try_deepest, NULL) != 0 || pthread_join(thread, NULL) != 0) {
+        fputs("no thread\n", stderr);
+        exit(1);
     }
-    for (k = 0; k < TURNS; k++) {
-        give_back(&first[k]);
-        give_back(&lent[k]);
-    }
+    pthread_attr_destroy(&attributes);
 }
 
 int main(int argc, char **argv)
 {
-    long many = argc == 3 ? atol(argv[2]) : 0;
+    size_t k, n;
 
-    if (argc < 2 || argc > 3 || (argc == 3 && many < 1)) {
-        fputs("entries FOLDER [HOW MANY CALLS]\n", stderr);
+    if (argc != 2) {
+        fputs("entries FOLDER\n", stderr);
         return 2;
     }
     folder = argv[1];
-    if (many > 0)
-        try_many(many);
-    else
-        try_table();
+    for (k = 0; k < CALLS; k++) {
+        try_answers(&calls[k], NULL);
+        for (n = 0; n < ALL && calls[k].entry == RUN; n++)
+            try_call(&calls[k], &all[n], BEDRAFOLY_RUN_ANSWER);
+    }
+    for (k = 0; k < OTHER_RUNS; k++)
+        try_other_run(&other_runs[k]);
+    try_small_stack();
     if (failures > 0)
         return 1;
-    if (many > 0)
-        printf("%ld calls of %lu kinds in turn, each as the first of its kind\n", many, (unsigned long)TURNS);
-    else
-        printf("%lu calls as expected, each with answers of 4 lengths\n", (unsigned long)CALLS);
+    printf("%lu calls and %lu runs in other tables as expected, ", (unsigned long)CALLS, (unsigned long)OTHER_RUNS);
+    printf("each with answers of 4 lengths; the deepest result on a stack of %d KiB\n", SMALL_STACK / 1024);
     return 0;
 }

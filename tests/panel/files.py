@@ -32,13 +32,18 @@ TABLES = payload(1, NUMBERS, [
     function(0, (0,), [((1,), 0)], [*[load(1)] * 15, call(1), RETURN]),
     function(0, (0,), [((1,), 0)], [load(1), call(2), RETURN])])
 
+PAIRS = [constructor(0), constructor(0, (0, 0))]  # 0 leaf, 1 pair
+LEVELS, TIMES = 117, 35
+
+# 4,095 pairs over a leaf, each the first argument of the next, and the same leaf beside each: no value of 4,096 cells is deeper.
+# The branch is there for the check, which then knows that the second argument is a leaf and adds nothing to the size.
+DEEP = payload(1, PAIRS, [
+    function(0, (), [((), LEVELS * TIMES)], [build(0), load(1), *[load(1), call(1)] * TIMES, RETURN]),
+    function(0, (0, 0), [((1, 1), LEVELS)], [
+        load(2), branch(0, 5 + 2 * LEVELS), load(1), *[load(2), build(1)] * LEVELS, RETURN, STOP])])
+
 COUNTED = [constructor(0), constructor(0, (0,), 255)]  # 0 zero, 1 next(count), which weighs much
 TREES = [constructor(1), constructor(1, (1, 1)), constructor(1, (1, 1, 1, 1))]  # 2 leaf, 3 pair, 4 four
-LEVELS = 124
-
-# For each step of the count, 124 pairs more, each the first argument of the next.
-DEEP = payload(2, COUNTED + TREES, [function(1, (0,), [((1,), 0)], [
-    load(1), branch(1, 7 + 2 * LEVELS), call(0), build(2), load(2), *[load(3), build(3)] * LEVELS, RETURN, build(2), RETURN])])
 
 # For each step of the count, a pair with a tree of 10,923 bytes that takes 8 cells: 4 * 1 + 1 is 5, then 21, 85, 341, 1365, 5461.
 LONG = payload(2, COUNTED + TREES, [
@@ -57,7 +62,7 @@ FILES = {
     'signature': packed(changed(ROOTS, 4 + 8 * 6, 3)), 'slot': packed(changed(ROOTS, 4 + 8 * 6 + 16 + 1, 9)),
     'nested4': packed(nested(4)), 'nested5': packed(nested(5)),
     'seven.payload': b'\7', 'tables': packed(TABLES), 'long': packed(LONG),
-    'deep': packed(DEEP), 'deep.result': bytes([3] * 32 * LEVELS + [2] * (32 * LEVELS + 1)),
+    'deep': packed(DEEP), 'deep.result': bytes([1] * 4095 + [0] * 4096),
     'list': bytes([3, 1, 2]), 'numbers4096': bytes([1] * 4095 + [0]), 'toolong': bytes(70000),
     'count95': bytes([1] * 95 + [0]), 'count96': bytes([1] * 96 + [0]),
 }

@@ -1,14 +1,23 @@
-"""Commands made by chance, for two programs that are to agree: commands.py COUNT SEED, one command a line.
+"""Commands made by chance, for two programs that are to agree: commands.py COUNT SEED [PROGRAMS], one command a line.
 
-Each starts from a program of the stored test commands, mostly an accepted one, and changes it in a few places: mostly one field of one record to a value near by,
-so that the records stay whole and the later rules decide; sometimes any byte, a cut, or a bit of the finished file. Some programs are
-checked, some are run on arguments of the right types with tables and budgets of any size.
+Each starts from a program of the stored test commands, mostly an accepted one, and changes it in a few places: mostly one field of
+one record to a value near by, so that the records stay whole and the later rules decide; sometimes any byte, a cut, or a bit of the
+finished file. Some programs are checked, some are run on arguments of the right types with tables and budgets of any size.
+
+PROGRAMS is a file of programs, one a line in hexadecimal digits. With it all commands are runs of these, as they are, and no two in
+a row are of the same program.
 """
-import os, random, sys
+import functools, itertools, os, random, sys
 
 HERE = os.path.dirname(os.path.abspath(__file__))
 sys.path.insert(0, os.path.join(HERE, '..', '..', 'model'))
 from programs import MOST_BLOCKS, ROOM, packed
+
+
+def unpacked(blocks):
+    """What the blocks of a file hold, by their used counts, whether they are right or not."""
+    parts = [blocks[k + 4:k + 4 + int.from_bytes(blocks[k + 2:k + 4], 'little')] for k in range(0, len(blocks), 512)]
+    return b''.join(parts)[:MOST_BLOCKS * ROOM]
 
 
 def stored_payloads():
@@ -20,9 +29,7 @@ def stored_payloads():
             words, answer = asked.split(), said.split()
             if words[0] not in ('check', 'run') or len(words[1]) % 1024:
                 continue
-            blocks = bytes.fromhex(words[1])
-            parts = [blocks[k + 4:k + 4 + int.from_bytes(blocks[k + 2:k + 4], 'little')] for k in range(0, len(blocks), 512)]
-            payload = b''.join(parts)[:MOST_BLOCKS * ROOM]
+            payload = unpacked(bytes.fromhex(words[1]))
             if len(payload) > 20:
                 every[payload] = None
                 if answer[0] != 'refused' or int(answer[1]) > 10:
@@ -68,30 +75,41 @@ def changed(chance, payload):
     return bytes(bytes_)
 
 
+@functools.lru_cache(maxsize=10000)
+def makers(payload, wanted):
+    """The constructors of a type, each with its argument types, and those of them that take none."""
+    records = [(c, payload[4 + 8 * c:12 + 8 * c]) for c in range(payload[2]) if 12 + 8 * c <= len(payload)]
+    every = [(bytes([c]), record[2:2 + min(record[1], 4)]) for c, record in records if record[0] == wanted]
+    return every, [(number, types) for number, types in every if not types] or every
+
+
 def value(chance, payload, wanted, depth):
     """A value of a type, in prefix order, where there is one of about this depth; else a few bytes."""
-    makers = [c for c in range(payload[2]) if payload[4 + 8 * c:5 + 8 * c] == bytes([wanted])]
-    makers = [c for c in makers if 12 + 8 * c <= len(payload)]
-    if depth == 0:
-        makers = [c for c in makers if payload[5 + 8 * c] == 0] or makers
-    if not makers or depth < -3:
+    every, small = makers(payload, wanted)
+    if not every or depth < -3:
         return bytes([chance.randrange(4)])
-    maker = chance.choice(makers)
-    record = payload[4 + 8 * maker:12 + 8 * maker]
-    return bytes([maker]) + b''.join(value(chance, payload, t, depth - 1) for t in record[2:2 + min(record[1], 4)])
+    number, types = chance.choice(small if depth == 0 else every)
+    return number + b''.join([value(chance, payload, t, depth - 1) for t in types])
 
 
-def run_of(chance, payload, file):
-    """A run of a program's first function, or now and then of another."""
-    at = 4 + 8 * payload[2]
-    types = payload[at + 2:at + 2 + min(payload[at + 1], 4)] if at + 10 <= len(payload) else b''
+def signatures(payload):
+    """The argument types of each function that the payload holds."""
+    records = starts(payload) if len(payload) > 3 else []
+    heads = [payload[start:start + length] for start, length in records if length == 10]
+    return [head[2:2 + min(head[1], 4)] for head in heads]
+
+
+def run_of(chance, payload, functions, file):
+    """A run of a program's first function, or now and then of another, or of one that it does not have."""
+    entry = chance.choice((0, chance.randrange(len(functions) + 1))) if functions and chance.random() < 0.2 else 0
+    types = functions[entry] if entry < len(functions) else b''
     arguments = b''.join(value(chance, payload, t, chance.randrange(5)) for t in types)[:60000]
     if chance.random() < 0.1:
         arguments = arguments[:chance.randrange(len(arguments) + 1)]
-    entry = 0 if chance.random() < 0.9 else chance.randrange(4)
     budget = chance.choice((0, 1, 3, 10, 40, 200, 5000, 5000, 5000))
-    tables = [chance.choice((0, few, 20 * few, 100 * few)) if chance.random() < 0.3 else 600 * few for few in (5, 1, 1, 1)]
-    return 'run %s %d %s %d %d %d %d %d' % (file.hex(), entry, arguments.hex() or '-', budget, *tables)
+    short, long = (0, 1, 20, 100), (600, 5000)
+    tables = [few * chance.choice(short if chance.random() < 0.3 else long) for few in (5, 1, 1, 1)]
+    return 'run %s %d %s %d %d %d %d %d' % (file, entry, arguments.hex() or '-', budget, *tables)
 
 
 def command(chance, payloads):
@@ -107,14 +125,34 @@ def command(chance, payloads):
         file[chance.randrange(len(file))] ^= 1 << chance.randrange(8)
     if len(payload) < 20 or chance.random() < 0.5:
         return 'check ' + file.hex()
-    return run_of(chance, payload, file)
+    return run_of(chance, payload, signatures(payload), file.hex())
+
+
+def runs(chance, path):
+    """Runs of the programs that a file has, without end."""
+    files = open(path).read().split()
+    payloads = [unpacked(bytes.fromhex(file)) for file in files]
+    functions = [signatures(payload) for payload in payloads]
+    order, last = list(range(len(files))), None
+    while True:
+        chance.shuffle(order)
+        if order[0] == last:
+            order.reverse()
+        last = order[-1]
+        for k in order:
+            yield run_of(chance, payloads[k], functions[k], files[k])
 
 
 def main():
     count, seed = int(sys.argv[1]), int(sys.argv[2])
-    chance, payloads = random.Random(seed), stored_payloads()
-    for _ in range(count):
-        print(command(chance, payloads))
+    chance = random.Random(seed)
+    if len(sys.argv) > 3:
+        commands = runs(chance, sys.argv[3])
+    else:
+        payloads = stored_payloads()
+        commands = (command(chance, payloads) for _ in range(count))
+    for line in itertools.islice(commands, count):
+        print(line)
 
 
 main()
