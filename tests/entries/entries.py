@@ -2,7 +2,7 @@
 import collections, glob, os, re, sys
 
 Function = collections.namedtuple('Function', 'crate file name public asks comment')
-FN = re.compile(r'^(pub )?(?:extern "C" )?fn (\w+)\(', re.M)
+FN = re.compile(r'^(pub )?(?:extern "C" )?fn (\w+)(?:<[^>]*>)?\(', re.M)
 
 
 def read(path):

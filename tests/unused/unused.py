@@ -5,7 +5,7 @@ LONGEST = 140
 # What is proved for its own sake: a reader looks for it, and no other proof cites it.
 THEOREMS = {'cases-hold', 'tally-promise', 'check-exact', 'round-trip', 'exact', 'run-promise', 'number-fact', 'result-fact',
             'cover-fact', 'branch-fact', 'argument-fact', 'read-back-fact', 'room-fact', 'types-fact', 'size-fact', 'choice-fact',
-            'progress-fact', 'argument-exact', 'packing-exact', 'unpacking-exact', 'says-operation', 'refusal-exact', 'check-exactly',
+            'progress-fact', 'argument-exact', 'packing-exact', 'unpacking-exact', 'says-operation', 'refusal-exact', 'check-exactly', 'open-exact',
             'check-words-small', 'pack-words-small', 'unpack-words-small', 'run-words-small'}
 
 TOKEN = re.compile(r'[^\s(){}.;,@"«»]+')

@@ -1,0 +1,190 @@
+// Records by offset, as they stand in lent blocks, whether the blocks are right or not. Of a record that is not there whole every field
+// is 0.
+ghost use mathlib.Core.Path.{_≡_};
+ghost use mathlib.Core.List.{[]};
+ghost use Prim.Native.Nat.{_+_};
+ghost use Rattle.rules.specs.Records.{declarationAt};
+ghost use Rattle.standing.specs.Found.{standing, Inside};
+ghost use Rattle.standing.specs.Found.{headerFound, constructorFound, headFound, alternativeFound, instructionFound};
+use extent::byte;
+use extent::four;
+use extent::is_there;
+use extent::word;
+use rules::records::AlternativeRecord;
+use rules::records::ConstructorRecord;
+use rules::records::Declaration;
+use rules::records::HeadRecord;
+use rules::records::Header;
+use rules::records::InstructionRecord;
+
+mod extent; // extent.rt: how far the payload of lent blocks goes, and its bytes
+
+// What is found of a record: whether it is there whole, and then its fields.
+pub struct HeaderFound {
+    pub there: bool,
+    pub header: Header,
+}
+
+pub struct ConstructorFound {
+    pub there: bool,
+    pub constructor: ConstructorRecord,
+}
+
+pub struct HeadFound {
+    pub there: bool,
+    pub head: HeadRecord,
+}
+
+pub struct AlternativeFound {
+    pub there: bool,
+    pub alternative: AlternativeRecord,
+}
+
+pub struct InstructionFound {
+    pub there: bool,
+    pub instruction: InstructionRecord,
+}
+
+fn no_declaration() -> Declaration
+    ensures { λ r. ⌜ r ≡ declarationAt [] 0 ⌝ }
+{
+    Declaration {
+        result: 0,
+        arity: 0,
+        types: [0u8; 4],
+    }
+}
+
+// What a constructor and a function head both begin with.
+fn declaration(file: &[u8], at: usize) -> Declaration
+    requires { ⌜ Inside (now file) (at + 6) ⌝ }
+    ensures { λ r. ⌜ r ≡ declarationAt (standing (now (file .entry))) at ⌝ }
+{
+    Declaration {
+        result: byte(file, at),
+        arity: byte(file, at + 1),
+        types: four(file, at + 2),
+    }
+}
+
+// The header.
+pub fn header_in(file: &[u8]) -> HeaderFound
+    ensures { λ r. ⌜ r ≡ headerFound (now (file .entry)) ⌝ }
+{
+    if !is_there(file, 0, 4) {
+        return HeaderFound {
+            there: false,
+            header: Header {
+                edition: 0,
+                types: 0,
+                constructors: 0,
+                functions: 0,
+            },
+        };
+    }
+    HeaderFound {
+        there: true,
+        header: Header {
+            edition: byte(file, 0),
+            types: byte(file, 1),
+            constructors: byte(file, 2),
+            functions: byte(file, 3),
+        },
+    }
+}
+
+// The constructor at an offset.
+pub fn constructor_in(file: &[u8], at: usize) -> ConstructorFound
+    ensures { λ r. ⌜ r ≡ constructorFound (now (file .entry)) at ⌝ }
+{
+    if !is_there(file, at, 8) {
+        return ConstructorFound {
+            there: false,
+            constructor: ConstructorRecord {
+                declaration: no_declaration(),
+                weight: 0,
+                reserved: 0,
+            },
+        };
+    }
+    ConstructorFound {
+        there: true,
+        constructor: ConstructorRecord {
+            declaration: declaration(file, at),
+            weight: byte(file, at + 6),
+            reserved: byte(file, at + 7),
+        },
+    }
+}
+
+// The function head at an offset.
+pub fn head_in(file: &[u8], at: usize) -> HeadFound
+    ensures { λ r. ⌜ r ≡ headFound (now (file .entry)) at ⌝ }
+{
+    if !is_there(file, at, 10) {
+        return HeadFound {
+            there: false,
+            head: HeadRecord {
+                declaration: no_declaration(),
+                alternatives: 0,
+                reserved: 0,
+                instructions: 0,
+            },
+        };
+    }
+    HeadFound {
+        there: true,
+        head: HeadRecord {
+            declaration: declaration(file, at),
+            alternatives: byte(file, at + 6),
+            reserved: byte(file, at + 7),
+            instructions: word(file, at + 8),
+        },
+    }
+}
+
+// The alternative at an offset.
+pub fn alternative_in(file: &[u8], at: usize) -> AlternativeFound
+    ensures { λ r. ⌜ r ≡ alternativeFound (now (file .entry)) at ⌝ }
+{
+    if !is_there(file, at, 6) {
+        return AlternativeFound {
+            there: false,
+            alternative: AlternativeRecord {
+                coefficients: [0u8; 4],
+                constant: 0,
+            },
+        };
+    }
+    AlternativeFound {
+        there: true,
+        alternative: AlternativeRecord {
+            coefficients: four(file, at),
+            constant: word(file, at + 4),
+        },
+    }
+}
+
+// The instruction at an offset.
+pub fn instruction_in(file: &[u8], at: usize) -> InstructionFound
+    ensures { λ r. ⌜ r ≡ instructionFound (now (file .entry)) at ⌝ }
+{
+    if !is_there(file, at, 4) {
+        return InstructionFound {
+            there: false,
+            instruction: InstructionRecord {
+                operation: 0,
+                a: 0,
+                b: 0,
+            },
+        };
+    }
+    InstructionFound {
+        there: true,
+        instruction: InstructionRecord {
+            operation: byte(file, at),
+            a: byte(file, at + 1),
+            b: word(file, at + 2),
+        },
+    }
+}
