@@ -68,11 +68,13 @@ FILES = {
 }
 
 
-def main():
-    assert roots() == ROOTS and len(ROOTS) == 116
-    for name, data in FILES.items():
-        with open(os.path.join(sys.argv[1], name), 'wb') as file:
+def write(folder, files):
+    """Each file under its name."""
+    for name, data in files.items():
+        with open(os.path.join(folder, name), 'wb') as file:
             file.write(data)
 
 
-main()
+if __name__ == '__main__':
+    assert roots() == ROOTS and len(ROOTS) == 116
+    write(sys.argv[1], FILES)

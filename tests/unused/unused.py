@@ -83,7 +83,8 @@ def unused_definitions(texts):
 
 
 def functions(text):
-    """Name, parameters and body of each function of a Rattle file."""
+    """Name, parameters and body of each function of a Rattle file. Brackets in a byte string close nothing."""
+    text = re.sub(r'b"[^"]*"', 'b""', text)
     for m in re.finditer(r'\bfn (\w+)(?:<[^>]*>)?\(', text):
         end = closing(text, m.end() - 1)
         start = text.index('{', end)
