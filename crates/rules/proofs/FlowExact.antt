@@ -25,7 +25,7 @@ use Rattle.rules.proofs.TriedLaws.{refused-found, found-inj, require-re
 use Rattle.rules.proofs.VerdictLaws.{verdict-of, verdict-decides}
 use Rattle.rules.proofs.EachLaws.{level, up-to}
 use Rattle.rules.proofs.WalkLaws.{count, origin-leads, origin-is, leads-once, some-arrive, origin-there, along-passed, along-stops}
-use Rattle.rules.proofs.WalkLaws.{slot-there, at-take, state-start, handed-state}
+use Rattle.rules.proofs.WalkLaws.{slot-there, at-take, state-start, handed-state, handed-on}
 use Rattle.rules.proofs.RuleLaws.{flow-found, branch-leaves, passing-found, passing-all}
 
 ---- Arrivals
@@ -204,8 +204,9 @@ module _ (code : List Instruction) where
       let r = passing-found (o .0) (l .ins) (w .0) in
       let c : 1 ≤ count j (r .0) = rw (passing-all (o .0) (l .ins) (w .0) (r .0) (r .1) j) (l .names) in
       let is : pastAt code j ≡ some (afterOne (l .ins) (w .0)) =
-      handed-state passing false code (o .0) j (omega arith) hi (o .1) ∙ rw (l .stands, w .1, r .1)
-      (first-state j (passing-states (o .0) (l .ins) (w .0) (r .1)) c) in (
+      handed-state passing false code (o .0) j (omega arith) hi (o .1)
+      ∙ handed-on passing false code (o .0) j (l .ins) (w .0) (r .0) (l .stands) (w .1) (r .1)
+      ∙ first-state j (passing-states (o .0) (l .ins) (w .0) (r .1)) c in (
         afterOne (l .ins) (w .0),
         is,
         (

@@ -445,6 +445,11 @@ module _ {S : Type 0} (rule : ℕ → Instruction → S → Tried (List (Arrow S
   handed-state i zero lo hi o = absurd (omega arith)
   handed-state i (suc d) lo hi o = state-is rule roots code d hi ∙ rw (ne-eqb 1 (suc d) (λ q. omega arith), o)
 
+  -- what an instruction with a state hands on to j, where its rule passes
+  pub handed-on : (i j : ℕ) (ins : Instruction) (x : S) (M : List (Arrow S)) → slot i code ≡ some ins → at i ≡ some x
+      → rule i ins x ≡ found M → handed rule roots code i j (slot i code) (at i) ≡ first (arriving j M)
+  handed-on i j ins x M c e r = rw (c, e, r)
+
   module _ (tree : Tree code)
       (among : (i : ℕ) (ins : Instruction) (x : S) (M : List (Arrow S)) → rule i ins x ≡ found M → (j : ℕ)
       → count j M ≤ hits j (targets i ins)) where
@@ -501,7 +506,8 @@ module _ {S : Type 0} (rule : ℕ → Instruction → S → Tried (List (Arrow S
         let w = reach-below n (o .0) (omega (arith, from .ahead)) low (omega (arith, from .ahead)) (omega (arith, from .ahead)) in
         let r = pass (o .0) (from .ins) (omega (arith, from .ahead)) (from .stands) (w .0) (w .1) in
         let c : 1 ≤ count j (r .0) = rw (everywhere (o .0) (from .ins) (w .0) (r .0) (r .1) j) (from .names) in
-        one j (r .0) c (handed-state (o .0) j (omega arith) l (o .1) ∙ rw (from .stands, w .1, r .1))
+        one j (r .0) c (handed-state (o .0) j (omega arith) l (o .1)
+        ∙ handed-on (o .0) j (from .ins) (w .0) (r .0) (from .stands) (w .1) (r .1))
       where
         one : (j : ℕ) (M : List (Arrow S)) → 1 ≤ count j M → at j ≡ first (arriving j M) → (x : S) × (at j ≡ some x)
         one j M h e = two (arriving j M) h e
