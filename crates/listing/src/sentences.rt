@@ -59,10 +59,12 @@ fn put_declaration(line: Line, refusal: Numbers) -> Line {
 
 fn put_code(line: Line, number: u8) -> Line {
     match number {
-        7 => line.put(b"it is the last but no return or stop, ")
-            .put(b"its branch target is not from two instructions on to the last, ")
-            .put(b"not exactly one earlier instruction leads to it (and it is not the first), ")
-            .put(b"or it is a branch with a build or call before it on its path."),
+        7 => line.put(b"it is the last and neither return nor stop, ")
+            .put(
+                b"or its else target is not among the instructions from the second next to the last, ",
+            )
+            .put(b"or it is not the first and not exactly one earlier instruction leads to it, ")
+            .put(b"or it is a branch behind a build or call on its path."),
         8 => line.put(b"the stack does not end in the types that it takes ")
             .put(b"or would be higher than 16, ")
             .put(b"or its slot, constructor or function is not there."),
