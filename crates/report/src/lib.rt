@@ -57,5 +57,7 @@ pub fn numbers_of(reason: Reason) -> Numbers
         Reason::OutOfCells(place) => at_place(15, place),
         Reason::OutOfStack(place) => at_place(16, place),
         Reason::OutOfFrames(place) => at_place(17, place),
+        Reason::BadTable => refusal(19, 0, 0),
+        Reason::BadLine { line } => refusal(20, line, 0),
     }
 }

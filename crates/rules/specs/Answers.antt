@@ -1,4 +1,4 @@
--- What the code's answers say, in the numbers and places of document 01: `refusalOf` is the one definition of them.
+-- What the code's answers say, in the numbers and places of documents 01 and 02: `refusalOf` is the one definition of them.
 use mathlib.Core.List.{List, [], _∷_, _++_}
 use Prim.Native.Nat.{ℕ}
 use lib.ListN.{length, getD}
@@ -46,13 +46,15 @@ refusalOf (reason.BudgetSpent p) = atPlace 14 p
 refusalOf (reason.OutOfCells p) = atPlace 15 p
 refusalOf (reason.OutOfStack p) = atPlace 16 p
 refusalOf (reason.OutOfFrames p) = atPlace 17 p
+refusalOf reason.BadTable = refusal 19 0 0
+refusalOf (reason.BadLine line) = refusal 20 line 0
 
 -- check: `told r ≡ verdictOf (now (file .entry))`
 abbrev pub told : Verdict → Tried Counts
 told (verdict.Accepted counts) = found counts
 told (verdict.Refused r) = refused (refusalOf r)
 
--- pack and unpack: `toldLength r ≡ lengthOf (pack (now (payload .entry)) (length (now (out .entry))))`
+-- pack, unpack and lines: `toldLength r ≡ lengthOf (pack (now (payload .entry)) (length (now (out .entry))))`
 abbrev pub toldLength : Length → Tried ℕ
 toldLength (long.Bytes n) = found n
 toldLength (long.Refused r) = refused (refusalOf r)
@@ -90,7 +92,7 @@ abbrev pub checkWords : Tried Counts → List ℕ
 checkWords (found c) = 0 ∷ c .types ∷ c .constructors ∷ c .functions ∷ []
 checkWords (refused r) = r .number ∷ r .first ∷ r .second ∷ 0 ∷ []
 
--- pack and unpack: the number, the two places, the length
+-- pack, unpack and lines: the number, the two places, the length
 abbrev pub lengthWords : Tried ℕ → List ℕ
 lengthWords (found n) = 0 ∷ 0 ∷ 0 ∷ n ∷ []
 lengthWords (refused r) = r .number ∷ r .first ∷ r .second ∷ 0 ∷ []

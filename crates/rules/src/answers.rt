@@ -1,4 +1,5 @@
-// The answers of check, run, pack, unpack and verify. The definition `refusalOf` gives document 01's number and places for each reason.
+// The answers of check, run, pack, unpack, lines and verify. The definition `refusalOf` gives each reason's number and places, those of
+// documents 01 and 02.
 
 // An instruction of a function.
 pub struct Place {
@@ -6,7 +7,7 @@ pub struct Place {
     pub instruction: usize,
 }
 
-// Why a program, a call or a payload is refused, in the order of document 01's list.
+// Why a program, a call, a payload or a survey is refused.
 pub enum Reason {
     // A damaged file.
     BadLength,
@@ -32,6 +33,9 @@ pub enum Reason {
     OutOfCells(Place),
     OutOfStack(Place),
     OutOfFrames(Place),
+    // The survey.
+    BadTable,
+    BadLine { line: usize },
 }
 
 // How many types, constructors and functions an accepted program has.
@@ -47,7 +51,7 @@ pub enum Verdict {
     Refused(Reason),
 }
 
-// How many bytes: those that pack or unpack wrote to the output's front, or those of a verified payload.
+// How many bytes: those that pack, unpack or lines wrote to the output's front, or those of a verified payload.
 pub enum Length {
     Bytes(usize),
     Refused(Reason),

@@ -125,6 +125,18 @@ enum-known-reason-17 c = search needs
 at-place-requires-8 : tie.Need-at-place-requires-8
 at-place-requires-8 c κs = search needs
 
+enum-told-4 : tie.Need-enum-told-4
+enum-told-4 c = search needs
+
+refusal-requires-13 : tie.Need-refusal-requires-13
+refusal-requires-13 c κs = search needs
+
+enum-known-reason-18 : tie.Need-enum-known-reason-18
+enum-known-reason-18 c = search needs
+
+refusal-requires-14 : tie.Need-refusal-requires-14
+refusal-requires-14 c κs = search needs
+
 returns : tie.Need-returns
 returns c = c .refusal .ensures ∙ sym (ap refusalOf (c .before .enum-told .given .1))
 
@@ -185,6 +197,12 @@ returns-19 c = c .at-place7 .ensures ∙ sym (ap refusalOf (c .before .before .r
 returns-20 : tie.Need-returns-20
 returns-20 c = c .at-place8 .ensures ∙ sym (ap refusalOf (c .before .before .reason17 .given .1))
 
+returns-21 : tie.Need-returns-21
+returns-21 c = c .refusal13 .ensures ∙ sym (ap refusalOf (c .before .enum-told4 .given .1))
+
+returns-22 : tie.Need-returns-22
+returns-22 c = c .refusal14 .ensures ∙ sym (ap refusalOf (c .before .before .reason18 .given .1))
+
 pub numbers-of-spec : {M : Type 1} → statement M
 numbers-of-spec =
     tie.close
@@ -229,6 +247,10 @@ numbers-of-spec =
     at-place-requires-7
     enum-known-reason-17
     at-place-requires-8
+    enum-told-4
+    refusal-requires-13
+    enum-known-reason-18
+    refusal-requires-14
     returns
     returns-2
     returns-3
@@ -248,4 +270,6 @@ numbers-of-spec =
     returns-17
     returns-18
     returns-19
-    returns-20)
+    returns-20
+    returns-21
+    returns-22)
