@@ -1,5 +1,6 @@
-// The four commands: each reads its words, makes its call and writes one answer line.
+// The five commands: each reads its words, makes its call and writes one answer line.
 use crate::runs;
+use crate::surveys;
 use protocol::answers;
 use protocol::hex;
 use protocol::hex::Decoded;
@@ -13,6 +14,7 @@ enum Command {
     Unpack,
     Check,
     Run,
+    Lines,
     Bad,
 }
 
@@ -29,6 +31,9 @@ fn named(name: &[u8], count: usize) -> Command {
     }
     if (count == 9) & words::same(name, b"run") {
         return Command::Run;
+    }
+    if (count == 6) & words::same(name, b"lines") {
+        return Command::Lines;
     }
     Command::Bad
 }
@@ -86,6 +91,7 @@ pub fn answer(line: &mut [u8]) {
         Command::Unpack => convert_line(line, words, false),
         Command::Check => check_line(line, words),
         Command::Run => runs::run_line(line, words),
+        Command::Lines => surveys::lines_line(line, words),
         Command::Bad => answers::bad_command(),
     }
 }

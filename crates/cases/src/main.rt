@@ -3,6 +3,7 @@
 mod commands; // commands.rt: one command
 mod input; // input.rt: the lines of standard input
 mod runs; // runs.rt: the command run
+mod surveys; // surveys.rt: the command lines
 
 use input::Window;
 

@@ -7,6 +7,7 @@ ghost use Rattle.rules.specs.Answers.{checkWords, lengthWords, lengthOf, codeOf
 ghost use Rattle.rules.specs.Check.{verdictOf};
 ghost use Rattle.rules.specs.Container.{pack as packOf, unpack as unpackOf};
 ghost use Rattle.rules.specs.Memory.{packLeaves, unpackLeaves};
+ghost use Rattle.panel.specs.Survey.{ReadsLines};
 ghost use Rattle.panel.specs.Tables.{panelTables, RunsWithin};
 use words::check_words;
 use words::length_words;
@@ -102,4 +103,24 @@ pub extern "C" fn bedrafoly_unpack(file: &[u8], out: &mut [u8], answer: &mut [u8
         (now (answer .entry))) ⌝ }
 {
     tell(length_words(packing::unpack(file, out)), 4, answer)
+}
+
+// A survey's lines as a list argument, looked up in a table of entries of three letters and a constructor.
+#[no_mangle]
+pub extern "C" fn bedrafoly_lines(
+    text: &[u8],
+    table: &[u8],
+    cons: u8,
+    nil: u8,
+    out: &mut [u8],
+    answer: &mut [u8],
+) -> u32
+    ensures { λ r. ⌜ ReadsLines (now (text .entry)) (now (table .entry)) cons nil (now (out .entry)) (now (answer .entry))
+        (now (out .exit)) (now (answer .exit)) r ⌝ }
+{
+    tell(
+        length_words(lines::lines(text, table, cons, nil, out)),
+        4,
+        answer,
+    )
 }

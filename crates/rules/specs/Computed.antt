@@ -1,4 +1,4 @@
--- `unfolding computed` opens every definition that a closed computation of pack, unpack, check or run goes through.
+-- `unfolding computed` opens every definition that a closed computation of pack, unpack, lines, check or run goes through.
 use Rattle.rules.specs.Base.{numbered, forEach, each}
 use Rattle.rules.specs.Container.{weighed, checksum, usedRight, blockRight, verifyBlock, verifyBlocks, lengthRight, verify, payloadOf}
 use Rattle.rules.specs.Container.{payload, verified, blockBody, block, blocksOf, blockCount, packed, pack, unpack}
@@ -20,6 +20,7 @@ use Rattle.rules.specs.Machine.{current, answered, execute, step, after,
 use Rattle.rules.specs.Prefix.{readByte, readBytes, argumentsRight, arityOf, values, written}
 use Rattle.rules.specs.Run.{heights, fits, cellsTaken, refusalAt, endOf, stepWithin, continued, loaded, started, deliveredIn}
 use Rattle.rules.specs.Run.{delivered, run}
+use Rattle.rules.specs.Lines.{entriesOf, entries, tableRight, lookup, textLines, lineRight, code, codes, listOf, inRoom, linesOf}
 use Rattle.rules.specs.Memory.{begun}
 
 unfoldable pub computed : Unit {0}
@@ -39,4 +40,5 @@ unfolding numbered forEach each
     current answered execute step after returned resultOf
     readByte readBytes argumentsRight arityOf values written
     heights fits cellsTaken refusalAt endOf stepWithin continued loaded started deliveredIn delivered run begun
+    entriesOf entries tableRight lookup textLines lineRight code codes listOf inRoom linesOf
 computed = tt

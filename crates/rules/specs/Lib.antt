@@ -22,6 +22,7 @@ pub mod Prefix
 pub mod Heap
 pub mod Run
 pub mod HeapRun
+pub mod Lines
 pub mod Memory
 pub mod Answers
 pub mod Roots

@@ -1,10 +1,11 @@
--- What run, pack and unpack leave in the memory lent to them. Document 01, the last lines of "Numbers".
+-- What run, pack, unpack and lines leave in the memory lent to them. Document 01, the last lines of "Numbers".
 use mathlib.Core.List.{List, _++_}
 use mathlib.Core.Bool.{Bool, true, false}
 use Prim.Native.Nat.{ℕ, _+_, _*_}
 use lib.ListN.{length, take, drop, replicate}
 use Rattle.rules.specs.Base.{Tried, found, refused, _>>=_}
 use Rattle.rules.specs.Container.{pack, unpack}
+use Rattle.rules.specs.Lines.{linesOf}
 use Rattle.rules.specs.Check.{checked}
 use Rattle.rules.specs.Run.{Lent, usable, Ending, finished, aborted, refusedWith, loaded, run}
 
@@ -27,6 +28,10 @@ packLeaves bytes out = copiedInto out (pack bytes (length out))
 
 abbrev pub unpackLeaves : List ℕ → List ℕ → List ℕ
 unpackLeaves file out = copiedInto out (unpack file (length out))
+
+-- what lines of a text leaves in it
+abbrev pub linesLeave : List ℕ → List ℕ → ℕ → ℕ → List ℕ → List ℕ
+linesLeave text table cons nil out = copiedInto out (linesOf text table cons nil (length out))
 
 unfoldable pub resultInto : List ℕ → Ending (List ℕ) → List ℕ
 resultInto out (finished bytes) = frontWritten bytes out
