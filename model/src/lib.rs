@@ -2,13 +2,14 @@
 //!
 //! A file is verified and unpacked ([`container`]), its records are decoded once ([`decode`]),
 //! the decoded program is checked ([`check`]), and an accepted program is run on lent tables
-//! ([`machine`]).
+//! ([`machine`]). A survey's text becomes an argument of a run ([`lines`]).
 
 #![forbid(unsafe_code)]
 
 pub mod check;
 pub mod container;
 pub mod decode;
+pub mod lines;
 pub mod machine;
 
 /// Why something was refused: the number of the rule and two places.

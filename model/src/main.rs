@@ -8,6 +8,7 @@ use std::io::{self, BufRead, BufWriter, Write};
 
 use model::check::check;
 use model::container::{pack, unpack};
+use model::lines::lines;
 use model::machine::{run, Ending, Frame, Tables};
 use model::Refusal;
 
@@ -54,7 +55,7 @@ fn refused(refusal: Refusal) -> String {
     )
 }
 
-/// A packed or unpacked output, or the refusal, which must have left the output alone.
+/// What was written to an output's front, or the refusal, which must have left the output alone.
 fn copied(word: &str, result: Result<usize, Refusal>, out: &[u8]) -> String {
     let written = result.unwrap_or(0);
     if out[written..].iter().any(|&byte| byte != BYTE) {
@@ -137,6 +138,15 @@ fn answer_run(words: &[&str]) -> Option<String> {
     Some(format!("{said} {} {begun}", answer.steps))
 }
 
+fn answer_lines(words: &[&str]) -> Option<String> {
+    let text = from_hex(words[1])?;
+    let table = from_hex(words[2])?;
+    let constructor = |k: usize| words[k].parse::<u8>().ok();
+    let mut out = vec![BYTE; words[5].parse().ok()?];
+    let result = lines(&text, &table, constructor(3)?, constructor(4)?, &mut out);
+    Some(copied("lines", result, &out))
+}
+
 fn answer(line: &str) -> Option<String> {
     let words: Vec<&str> = line.split(' ').collect();
     match (words[0], words.len()) {
@@ -155,6 +165,7 @@ fn answer(line: &str) -> Option<String> {
             Err(refusal) => refused(refusal),
         }),
         ("run", 9) => answer_run(&words),
+        ("lines", 6) => answer_lines(&words),
         _ => None,
     }
 }

@@ -1,8 +1,9 @@
 """Commands made by chance, for two programs that are to agree: commands.py COUNT SEED [PROGRAMS], one command a line.
 
-Each starts from a program of the stored test commands, mostly an accepted one, and changes it in a few places: mostly one field of
+Most start from a program of the stored test commands, mostly an accepted one, and change it in a few places: mostly one field of
 one record to a value near by, so that the records stay whole and the later rules decide; sometimes any byte, a cut, or a bit of the
-finished file. Some programs are checked, some are run on arguments of the right types with tables and budgets of any size.
+finished file. Some programs are checked, some are run on arguments of the right types with tables and budgets of any size. The other
+commands are texts of lines with the letters of a table, mostly right ones; now and then a byte is another, left out or put in.
 
 PROGRAMS is a file of programs, one a line in hexadecimal digits. With it all commands are runs of these, as they are, and no two in
 a row are of the same program.
@@ -112,8 +113,37 @@ def run_of(chance, payload, functions, file):
     return 'run %s %d %s %d %d %d %d %d' % (file, entry, arguments.hex() or '-', budget, *tables)
 
 
+def bent(chance, some):
+    """Bytes with one of them changed, mostly to one at a limit, left out or put in."""
+    at = chance.randrange(len(some) + 1)
+    new = bytes([chance.choice((9, 10, 11, 64, 65, 66, 89, 90, 91, 97, chance.randrange(256)))])
+    return some[:at] + chance.choice((new, new, b'')) + some[at + chance.choice((0, 1, 1)):]
+
+
+def mostly(chance, some):
+    """The same bytes, and now and then bent ones."""
+    return bent(chance, some) if chance.random() < 0.2 else some
+
+
+def survey(chance):
+    """A text by a table. Of few capitals the letters often stand twice in the table, or are near those that do."""
+    capitals = chance.choice((b'AZ', b'ABYZ', bytes(range(65, 91))))
+    word = lambda: bytes(chance.choices(capitals, k=3))
+    words = [word() for _ in range(chance.choice((0, 1, 4, 12, 100, 2000)))]
+    table = b''.join(letters + bytes([chance.randrange(256)]) for letters in words)
+    found = [chance.choice(words) for _ in range(chance.choice((0, 1, 2, 5, 30, 300)))] if words else []
+    if chance.random() < 0.15:
+        found.insert(chance.randrange(len(found) + 1), word())
+    text, needed = b''.join(letters + b'\n' for letters in found), 2 * len(found) + 1
+    cons, nil = chance.choices(range(256), k=2) if chance.random() < 0.9 else (7, 7)
+    room = chance.choice((needed, needed, needed + 1, 1000, 1000, 1000, needed - 1, chance.randrange(needed)))
+    return 'lines %s %s %d %d %d' % (mostly(chance, text).hex() or '-', mostly(chance, table).hex() or '-', cons, nil, room)
+
+
 def command(chance, payloads):
     """One command."""
+    if chance.random() < 0.25:
+        return survey(chance)
     every, accepted = payloads
     payload = changed(chance, chance.choice(accepted if chance.random() < 0.9 else every))
     kind = chance.random()

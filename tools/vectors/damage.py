@@ -1,13 +1,11 @@
-"""Commands whose answers document 01's list gives: containers that are wrong in one way each, and programs and runs at both sides of a limit."""
+"""Commands whose answers the papers' lists give: containers that are wrong in one way each, and programs, runs and surveys at both sides of a limit."""
 import os, sys
 sys.path.insert(0, os.path.join(os.path.dirname(os.path.abspath(__file__)), '..', '..', 'model'))
+from kinds import say
 from programs import RETURN, ROOTS, STOP, block, branch, build, call, constructor, function, load, packed, payload, pieces
+from surveys import long_texts, no_bytes, survey_limits
 
 PLAIN = bytes((7 * k + k // 256) % 251 + 1 for k in range(32257))
-
-
-def say(data):
-    return data.hex() or '-'
 
 
 def in_one_block(n, whole, piece):
@@ -56,12 +54,14 @@ def lengths():
 
 
 def damaged():
-    """Containers that are wrong in one way each, every cut of ROOTS, and payloads and outputs at the limits of their lengths."""
+    """Containers that are wrong in one way each, every cut of ROOTS, payloads and outputs at the limits of their lengths, and long surveys."""
     for n in (0, 1, 511, 513, 32769, 33280):
         yield 'unpack %s 40000' % say(bytes(n)), 'refused 1 0 0'
     yield from many_blocks()
     yield from in_three_blocks()
     yield from lengths()
+    yield from long_texts()
+    yield from no_bytes()
     for n in range(512):
         yield 'check ' + say(block(ROOTS)[:n]), 'refused 1 0 0'
 
@@ -210,5 +210,5 @@ def orders_of_tables():
 def limits():
     """What the checker computes in a few seconds."""
     made = (block_counts, in_three_blocks, heights, variables, alternatives, constants, stops, pending, table_lengths)
-    for some in (*made, orders, orders_at_once, orders_of_blocks, orders_of_tables):
+    for some in (*made, orders, orders_at_once, orders_of_blocks, orders_of_tables, survey_limits):
         yield from some()

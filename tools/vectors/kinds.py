@@ -7,6 +7,10 @@ def data(word):
     return b'' if word == '-' else bytes.fromhex(word)
 
 
+def say(some):
+    return some.hex() or '-'
+
+
 def number(some):
     return int.from_bytes(some, 'little')
 
@@ -154,6 +158,42 @@ def block_place(file, n):
     return where + ': unused'
 
 
+def capital(byte):
+    return 65 <= byte <= 90
+
+
+def letters_place(some):
+    """Which of the three letters that an entry or a line begins with is the first that is no capital, or nothing."""
+    return next(('letter %d' % k for k, byte in enumerate(some[:3], 1) if not capital(byte)), '')
+
+
+def table_place(table, same):
+    """For 19: all that is wrong, and of the letters the first."""
+    entries = [table[k:k + 4] for k in range(0, len(table), 4)]
+    letters = ['%s, entry %s' % (letters_place(entry), later(k)) for k, entry in enumerate(entries) if letters_place(entry)]
+    return ' and '.join(['length'] * (len(table) % 4 > 0) + letters[:1] + ['cons is nil'] * same)
+
+
+def line_place(text, n):
+    """For 20: which line, and what is wrong with it."""
+    lines = text.split(b'\n')
+    line, left = lines[n - 1], len(lines) - n
+    where = 'first' if n == 1 else 'last' if left < 2 else 'middle'
+    if not left:
+        return '%s line: no end behind %d' % (where, len(line))
+    if len(line) != 3:
+        return '%s line: %s' % (where, 'empty' if not line else 'short' if len(line) < 3 else 'long')
+    return '%s line: %s' % (where, letters_place(line) or 'not in the table')
+
+
+def list_place(w, needed):
+    """For a list: how many lines it has, whether the table has letters twice, and the room."""
+    table = data(w[2])
+    letters = [table[k:k + 3] for k in range(0, len(table), 4)]
+    lines = {1: 'no lines', 3: 'one line'}.get(needed, 'lines')
+    return '%s%s, room %s' % (lines, ', letters twice' * (len(set(letters)) < len(letters)), room_place(int(w[5]), needed))
+
+
 def refused_place(w, a):
     """The kind of place of a refusal, by its number."""
     n, first, second = (int(x) for x in a[1:4])
@@ -166,6 +206,10 @@ def refused_place(w, a):
         return room_place(int(w[-1]), first) + (', no steps' if len(a) > 4 and a[4] == '0' else '')
     if n == 18:
         return 'empty' if not file else 'too long'
+    if n == 19:
+        return table_place(data(w[2]), w[3] == w[4])
+    if n == 20:
+        return line_place(file, first)
     if n == 11:
         return 'next' if first == payload_of(file)[3] else 'far' if first > 255 else 'other'
     if n == 12:
@@ -197,6 +241,8 @@ def place(command, answer):
         return refused_place(w, a)
     if a[0] in ('packed', 'unpacked'):
         return '%d blocks, room %s' % ((len(data(w[1])) + 511) // 512, room_place(int(w[2]), len(data(a[1]))))
+    if a[0] == 'lines':
+        return list_place(w, len(data(a[1])))
     if a[0] == 'accepted':
         return program_place(data(w[1]))
     taken = 'no steps' if a[-2] == '0' else 'steps' if int(a[-2]) > 1 else 'one step'

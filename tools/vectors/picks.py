@@ -9,10 +9,20 @@ BLOCKS_AT_A_LIMIT = 6
 ROOTS_ITSELF = roots_with(0, 1)
 
 
+def lines_of(folder, name):
+    return open(os.path.join(folder, name), encoding='ascii').read().splitlines()
+
+
 def read(folder):
     """The commands of a folder with their agreed answers."""
-    lines = [open(os.path.join(folder, n), encoding='ascii').read().splitlines() for n in ('commands.txt', 'answers.txt')]
-    return list(zip(*lines))
+    return list(zip(lines_of(folder, 'commands.txt'), lines_of(folder, 'answers.txt')))
+
+
+def read_base(folder):
+    """The commands of the folder around it with the answers that this one has to them, where it has any."""
+    if os.path.exists(os.path.join(folder, 'base-answers.txt')):
+        return list(zip(lines_of(os.path.join(folder, os.pardir), 'commands.txt'), lines_of(folder, 'base-answers.txt')))
+    return []
 
 
 def changes_of_roots(folder):
@@ -35,6 +45,8 @@ def small(command, reply, blocks):
     if w[0] == 'run':
         few = int(a[-2]) <= STEPS and (len(data(w[3])) <= ARGUMENTS or a[:3] == ['refused', '12', '65535'])
         return few and len(data(w[1])) <= 512 * blocks
+    if w[0] == 'lines':
+        return len(data(w[1])) + len(data(w[2])) <= 512 * blocks
     return len(data(w[1])) <= 512 * blocks or w[0] == 'pack' and a[0] == 'refused'
 
 

@@ -1,7 +1,7 @@
 """A test vector as a statement: a definition of crates/rules, on the vector's input, is the agreed answer.
 
-A statement is a term, its type and what it is said to be. Of pack, unpack and run it also says what each lent slice holds at exit,
-where the slices are filled with numbers that are not zero.
+A statement is a term, its type and what it is said to be. Of all but check it also says what each lent slice holds at exit, where
+the slices are filled with numbers that are not zero.
 """
 from kinds import data
 
@@ -17,8 +17,9 @@ use Rattle.rules.specs.declared.answers.Counts.{Counts}
 use Rattle.rules.specs.Base.{refusal, Tried, found, refused}
 use Rattle.rules.specs.Container.{pack, unpack}
 use Rattle.rules.specs.Check.{verdictOf}
+use Rattle.rules.specs.Lines.{linesOf}
 use Rattle.rules.specs.Run.{Lent, usable, finished, aborted, refusedWith, Outcome, answer, run}
-use Rattle.rules.specs.Memory.{copiedInto, resultInto, packLeaves, unpackLeaves, begun, tableAfter, outputAfter, cellsAfter, stackAfter}
+use Rattle.rules.specs.Memory.{copiedInto, resultInto, packLeaves, unpackLeaves, linesLeave, begun, tableAfter, outputAfter, cellsAfter, stackAfter}
 use Rattle.rules.specs.Computed.{computed}
 
 -- n bytes of a number, low byte first
@@ -76,15 +77,26 @@ def wiped(begun, usable, length):
     return '(replicate %d 0 ++ filled %d %d)' % (usable, usable, length - usable) if begun else '(filled 0 %d)' % length
 
 
-def packing(w, a):
-    """Of pack and unpack: the answer, and what the output holds."""
-    room, some = int(w[2]), data(w[1])
+# The commands that fill an output, each with its definition and with what that leaves in the output.
+FILLING = {'pack': ('pack', 'packLeaves'), 'unpack': ('unpack', 'unpackLeaves'), 'lines': ('linesOf', 'linesLeave')}
+
+
+def given(w):
+    """What a command that fills an output is given beside it: its bytes, and of lines two numbers."""
+    bytes_, numbers = (w[1:3], w[3:5]) if w[0] == 'lines' else (w[1:2], [])
+    return ' '.join([listed(data(word)) for word in bytes_] + numbers)
+
+
+def filling(w, a):
+    """Of pack, unpack and lines: the answer, and what the output holds."""
+    room, words = int(w[-1]), given(w)
+    answer, leaves = FILLING[w[0]]
     said = 'refused ' + refusal(a) if a[0] == 'refused' else 'found ' + listed(data(a[1]))
     left = '(filled 0 %d)' % room if a[0] == 'refused' else front(data(a[1]), room)
-    given = [('%s %s %d' % (w[0], listed(some), room), 'Tried (List ℕ)', said)]
+    terms = [('%s %s %d' % (answer, words, room), 'Tried (List ℕ)', said)]
     if room <= LONGEST_SLICE:
-        given.append(('%sLeaves %s (filled 0 %d)' % (w[0], listed(some), room), 'List ℕ', left))
-    return given
+        terms.append(('%s %s (filled 0 %d)' % (leaves, words, room), 'List ℕ', left))
+    return terms
 
 
 def has_begun(a, words):
@@ -125,8 +137,8 @@ def running(w, a, memory, turn):
 def parts(command, reply, memory=True, turn=0):
     """The terms of a vector, each with its type and what it is said to be."""
     w, a = command.split(), reply.split()
-    if w[0] in ('pack', 'unpack'):
-        return packing(w, a)[:2 if memory else 1]
+    if w[0] in FILLING:
+        return filling(w, a)[:2 if memory else 1]
     if w[0] == 'run':
         return running(w, a, memory, turn)
     said = 'refused ' + refusal(a) if a[0] == 'refused' else 'found (counts %s %s %s)' % tuple(a[1:4])

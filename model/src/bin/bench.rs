@@ -1,15 +1,17 @@
 //! Does a job from standard input many times; then one line: nanoseconds, and a sum over all answers.
 //!
 //! A job: ten numbers of four bytes, low byte first, then the program's bytes and the argument bytes.
-//! The numbers: mode (1 check, 2 run), repetitions, length of program, length of arguments, entry,
-//! budget, lengths of the lent cells (numbers), stack (numbers), frames (numbers, three to a record)
-//! and output.
+//! The numbers: mode (1 check, 2 run, 3 lines), repetitions, length of program, length of arguments,
+//! entry, budget, lengths of the lent cells (numbers), stack (numbers), frames (numbers, three to a
+//! record) and output. For lines a text, a table, and the numbers of cons and nil stand in the places
+//! of the program, the arguments, the entry and the budget.
 
 use std::hint::black_box;
 use std::io::{self, Read};
 use std::time::Instant;
 
 use model::check::check;
+use model::lines::lines;
 use model::machine::{run, Ending, Frame, Tables};
 
 /// A job as it was read.
@@ -72,6 +74,25 @@ fn runs(job: &Job, tables: &mut Tables, out: &mut [u8]) -> u64 {
     sum
 }
 
+/// The length of each list, else the refusal's number.
+fn surveys(job: &Job, out: &mut [u8]) -> u64 {
+    let mut sum = 0;
+    for _ in 0..job.numbers[1] {
+        let answer = lines(
+            black_box(&job.program),
+            black_box(&job.arguments),
+            job.numbers[4] as u8,
+            job.numbers[5] as u8,
+            black_box(out),
+        );
+        sum += match answer {
+            Ok(length) => length as u64,
+            Err(refusal) => u64::from(refusal.number),
+        };
+    }
+    sum
+}
+
 fn main() -> io::Result<()> {
     let job = read_job()?;
     let mut cells = vec![0; job.numbers[6] as usize];
@@ -84,10 +105,10 @@ fn main() -> io::Result<()> {
         frames: &mut frames,
     };
     let before = Instant::now();
-    let sum = if job.numbers[0] == 1 {
-        checks(&job)
-    } else {
-        runs(&job, &mut tables, &mut out)
+    let sum = match job.numbers[0] {
+        1 => checks(&job),
+        2 => runs(&job, &mut tables, &mut out),
+        _ => surveys(&job, &mut out),
     };
     println!("{} {sum}", before.elapsed().as_nanos());
     Ok(())
