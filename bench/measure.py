@@ -8,7 +8,7 @@ answers must agree.
 """
 import argparse, os, statistics, subprocess, tempfile
 
-from workloads import CHECK, WORKLOADS
+from workloads import LINES, RUN, WORKLOADS
 
 
 def processor_time(program, job, times):
@@ -34,20 +34,20 @@ def repetitions(program, job, seconds):
         times *= 4
 
 
-def steps(total, times):
-    """The steps of one run that gave a result."""
-    return total // times - 100
+def counted(job, total, times):
+    """What one call got through: the steps of a run that gave a result, the lines of a text, and of a check nothing that is counted."""
+    return {RUN: (total // times - 100, 'steps'), LINES: (len(job.program) // 4, 'lines')}.get(job.mode)
 
 
 def report(name, job, programs, times, figures, total):
     print('%s (%d repetitions)' % (name, times))
-    first = figures[programs[0][0]]
+    first, count = figures[programs[0][0]], counted(job, total, times)
     for label, _ in programs:
         all_rounds = figures[label]
         middle = statistics.median(all_rounds)
         text = '  %-8s %12.3f us a call (%.3f to %.3f)' % (label, middle * 1e6, min(all_rounds) * 1e6, max(all_rounds) * 1e6)
-        if job.mode != CHECK:
-            text += ', %8.2f million steps a second' % (steps(total, times) / middle / 1e6)
+        if count:
+            text += ', %8.2f million %s a second' % (count[0] / middle / 1e6, count[1])
         print(text + ', %.2f by medians, %.2f by least' % (middle / statistics.median(first), min(all_rounds) / min(first)), flush=True)
 
 

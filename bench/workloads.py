@@ -1,10 +1,10 @@
-"""The programs and calls that are timed, each as a job of mode, program, arguments and table lengths."""
-import os, struct, sys
+"""The programs, texts and calls that are timed, each as a job of mode, program, arguments and table lengths."""
+import itertools, os, random, struct, sys
 
 sys.path.insert(0, os.path.join(os.path.dirname(os.path.abspath(__file__)), '..', 'model'))
 from programs import ROOTS, RETURN, branch, build, call, constructor, function, load, packed, payload
 
-CHECK, RUN = 1, 2
+CHECK, RUN, LINES = 1, 2, 3
 ROOM = 64 * 504
 
 
@@ -20,6 +20,14 @@ class Job:
         """The job's bytes, to be done so many times."""
         numbers = (self.mode, times, len(self.program), len(self.arguments), *self.rest)
         return struct.pack('<10I', *numbers) + self.program + self.arguments
+
+
+class Survey(Job):
+    """The lines of a text, by a table and the numbers of cons and nil, which stand in the places of a run's words."""
+
+    def __init__(self, text, table, cons=3, nil=2, out=65536):
+        super().__init__(text, table, cons, nil, out=out)
+        self.mode = LINES
 
 
 # Constructors of the heavy programs, all of one type.
@@ -185,6 +193,18 @@ def number(n):
     return bytes([1] * n + [0])
 
 
+# The longest list that fits argument bytes, and all that three capital letters can be.
+MOST_LINES, WORDS = 32767, 26 ** 3
+
+
+def survey(part):
+    """A part of as many lines and of as many entries as there may be: entries in no order, lines with the letters of any of them."""
+    chance = random.Random(1)
+    words = chance.sample([bytes(word) for word in itertools.product(range(65, 91), repeat=3)], WORDS // part)
+    table = b''.join(word + bytes([k % 250]) for k, word in enumerate(words))
+    return Survey(b''.join(word + b'\n' for word in chance.choices(words, k=MOST_LINES // part)), table)
+
+
 # The longest list of roots whose run fits the largest tables.
 MOST_ROOTS = 21844
 LARGEST_TABLES = dict(cells=327675, stack=65535, frames=65535, out=65536)
@@ -208,4 +228,7 @@ WORKLOADS = {
     'run b1: recursion by two calls, depth 18': Job(recursion(True), number(18), cells=20480, stack=2048, frames=256, out=64),
     'run b2: recursion by one call, depth 32,000': Job(recursion(False), number(32000), cells=160005, stack=65535, frames=32001, out=64),
     'run c: ROOTS on 3 1 2': Job(packed(ROOTS), bytes([3, 1, 2]), cells=20480, stack=2048, frames=256, out=16),
+    'lines a1: 32,767 lines, 17,576 entries': survey(1),
+    'lines a2: 16,383 lines, 8,788 entries': survey(2),
+    'lines a3: 8,191 lines, 4,394 entries': survey(4),
 }
