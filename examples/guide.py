@@ -13,6 +13,7 @@ FILE = packed(ROOTS)
 ZERO, NEXT, NUMBER = 0, 1, 0
 NUMBERS = [constructor(NUMBER), constructor(NUMBER, (NUMBER,))]
 TREE = [constructor(0), constructor(0, (0, 0, 0, 0))]  # a leaf, and a node over four
+TABLE = b'CRA\0ROO\1'  # what a survey's letters stand for in ROOTS
 
 
 def changed(data, at, byte):
@@ -35,6 +36,11 @@ def run(file=FILE, entry=0, arguments=(3, 1, 2), budget=1000, cells=20480, stack
 
 def pack(data, room):
     return 'pack %s %d' % (data.hex() or '-', room)
+
+
+def lines(text, table=TABLE, cons=3, nil=2, room=16):
+    """A survey's lines as a list of ROOTS unless something else is said."""
+    return 'lines %s %s %d %d %d' % (text.hex() or '-', table.hex() or '-', cons, nil, room)
 
 
 def one(code, constructors=NUMBERS):
@@ -122,6 +128,20 @@ COMMANDS = [
     ('1 frame', "run(frames=1)"),
     ('no frame', "run(frames=0)"),
     ('a function that calls itself for ever', "run(packed(one([call(0), RETURN])), arguments=(ZERO,))"),
+    # a survey
+    ('three finds', r"lines(b'ROO\nCRA\nROO\n')"),
+    ('no find', "lines(b'')"),
+    ('letters twice in the table', r"lines(b'ROO\n', TABLE + b'ROO\0')"),
+    # 19, 20
+    ('a table of 7 bytes', "lines(b'', TABLE[:7])"),
+    ('a small letter in the table', r"lines(b'', b'Roo\1')"),
+    ('cons and nil are the same', "lines(b'', nil=3)"),
+    ('a carriage return', r"lines(b'ROO\r\nCRA\r\n')"),
+    ('an empty line', r"lines(b'ROO\n\nCRA\n')"),
+    ('a small letter', r"lines(b'ROO\nRoo\n')"),
+    ('no byte 10 at the end', r"lines(b'ROO\nCRA')"),
+    ('letters that no entry has', r"lines(b'ROO\nCRA\nTAR\n')"),
+    ('room for four bytes of five', r"lines(b'ROO\nCRA\n', room=4)"),
     # covers
     ('`first_of`, `add` and `sum_of`', "of_payload(sums())"),
     ('a pair under two alternatives', "of_payload(pair(((2, 0), 1), ((0, 2), 1)))"),

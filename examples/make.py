@@ -1,5 +1,5 @@
 #!/usr/bin/env python3
-"""Writes the example programs as files of blocks: make.py [FOLDER], by default the folder of this file."""
+"""Writes the example programs as files of blocks, and a survey for one: make.py [FOLDER], by default the folder of this file."""
 import os, sys
 sys.dont_write_bytecode = True
 HERE = os.path.dirname(os.path.abspath(__file__))
@@ -48,12 +48,20 @@ def pairs(weight=2):
 
 EXAMPLES = {'roots': roots, 'add': add, 'double': double, 'half': half, 'pairs': pairs}
 
+# Three finds as the logger writes them, and what its letters stand for in ROOTS.
+SURVEY = b'ROO\nCRA\nROO\n'
+CODES = b'''# The finds of ROOTS: letters and constructor.
+CRA 0
+ROO 1
+'''
+
 
 def main():
     folder = sys.argv[1] if len(sys.argv) > 1 else HERE
-    for name, program in EXAMPLES.items():
-        with open(os.path.join(folder, name + '.sheet'), 'wb') as file:
-            file.write(packed(program()))
+    files = {name + '.sheet': packed(program()) for name, program in EXAMPLES.items()}
+    for name, data in {**files, 'roots.survey': SURVEY, 'roots.codes': CODES}.items():
+        with open(os.path.join(folder, name), 'wb') as file:
+            file.write(data)
 
 
 if __name__ == '__main__':

@@ -1,7 +1,8 @@
 /* The proved verifier and interpreter as a library for C99 and C++ on x86-64.
  *
  * A program ("sheet") is a file of 1 to 64 blocks of 512 bytes; the bytes stored in its blocks are its payload. An entry function
- * of an accepted program takes argument bytes and gives a result ("figure"), or it gives up: the program aborts by its own stop.
+ * of an accepted program takes argument bytes and gives a result ("figure"), or it gives up: the program aborts by its own stop. A
+ * survey is a text that a logger writes, one find a line; an entry turns it into argument bytes.
  *
  * What the caller must see to, since no entry can find it out:
  * - No pointer is NULL, also where the length is 0: then any valid address will do.
@@ -21,7 +22,7 @@ extern "C" {
 #endif
 
 /* What every entry returns. Two place numbers belong to each; in brackets is what they are. A place that has no meaning is 0.
- * Functions, constructors, blocks and bytes are counted from 0; instructions and a function's arguments from 1. */
+ * Functions, constructors, blocks and bytes are counted from 0; instructions, a function's arguments and a text's lines from 1. */
 enum bedrafoly_number {
     /* Accepted, a result, or written. */
     BEDRAFOLY_DONE = 0,
@@ -81,6 +82,14 @@ enum bedrafoly_number {
     /* The operator again: the payload to pack is empty or over 32,256 bytes. [0, 0] */
     BEDRAFOLY_BAD_PAYLOAD = 18,
 
+    /* The operator again: the length of a survey's table is no multiple of 4, one of its letters is no capital, or the numbers of
+     * cons and nil are the same. [0, 0] */
+    BEDRAFOLY_BAD_TABLE = 19,
+
+    /* The logger's text, or the operator's table where it lacks an entry: the first line that is not three capital letters and byte
+     * 10, or whose letters are not in the table. [line, 0] */
+    BEDRAFOLY_BAD_LINE = 20,
+
     /* The program gave up: it aborted by its own stop, which is its author's answer to such arguments. [0, 0] */
     BEDRAFOLY_GAVE_UP = 100
 };
@@ -91,6 +100,7 @@ enum bedrafoly_number {
 #define BEDRAFOLY_RUN_ANSWER 20    /* number, two places, steps taken, length of the result (0 for none) */
 #define BEDRAFOLY_PACK_ANSWER 16   /* number, two places, length written (0 for none) */
 #define BEDRAFOLY_UNPACK_ANSWER 16 /* as for pack */
+#define BEDRAFOLY_LINES_ANSWER 16  /* as for pack */
 
 /* The tables of a run, which are built in. bedrafoly_run uses all of them; bedrafoly_run_within uses less where it is told so. */
 #define BEDRAFOLY_CELLS 4096
@@ -125,6 +135,15 @@ uint32_t bedrafoly_pack(const uint8_t *payload, size_t payload_length, uint8_t *
 /* Writes the payload of a file to the front of `out`: 0, 1 to 3, or 13. It does not check the program. */
 uint32_t bedrafoly_unpack(const uint8_t *file, size_t file_length, uint8_t *out, size_t out_length, uint8_t *answer,
                           size_t answer_length);
+
+/* Writes a survey's text as a list to the front of `out`, to be an argument of a run: cons and the first line's code, cons and the
+ * second one's, and so on, then nil; of an empty text nil alone. A line is three capital letters, A to Z, and byte 10. An entry of
+ * the table is four bytes, three capital letters and the code that they stand for; where letters stand twice the earlier entry
+ * counts. Gives 0; else 19, 20 or 13, the first of these that holds, with `out` left as it was. What is behind the list in `out` is
+ * left as it was too. Text and table have any length, and whether the list is too long for an argument is for the run to say; but
+ * of a text of 4,294,967,296 bytes or more, a place or the length may not fit its word of the answer. */
+uint32_t bedrafoly_lines(const uint8_t *text, size_t text_length, const uint8_t *table, size_t table_length, uint8_t cons,
+                         uint8_t nil, uint8_t *out, size_t out_length, uint8_t *answer, size_t answer_length);
 
 #ifdef __cplusplus
 }

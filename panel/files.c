@@ -10,6 +10,9 @@
 
 #include "panel.h"
 
+#define FIRST_ROOM 65536
+#define LONGEST_WHOLE 4294967295u /* so that each length and each line's number fits a word of an answer */
+
 static int cannot(const char *what, const char *path, int reason)
 {
     fprintf(stderr, "panel: cannot %s '%s': %s\n", what, path, strerror(reason));
@@ -26,6 +29,36 @@ int read_file(const char *path, uint8_t *bytes, size_t room, size_t *length)
     *length = fread(bytes, 1, room, in);
     if (ferror(in))
         reason = errno;
+    fclose(in);
+    return reason == 0 ? 0 : cannot("read", path, reason);
+}
+
+/* Reads on, into twice the memory. Gives 0, or the reason why not. */
+static int read_on(FILE *in, struct bytes *bytes)
+{
+    size_t room = bytes->length == 0 ? FIRST_ROOM : 2 * bytes->length;
+    uint8_t *at = realloc(bytes->at, room);
+
+    if (at == NULL)
+        return ENOMEM;
+    bytes->at = at;
+    bytes->length += fread(at + bytes->length, 1, room - bytes->length, in);
+    if (ferror(in))
+        return errno;
+    return bytes->length > LONGEST_WHOLE ? EFBIG : 0;
+}
+
+int read_whole(const char *path, struct bytes *bytes)
+{
+    FILE *in = fopen(path, "rb");
+    int reason = 0;
+
+    bytes->at = NULL;
+    bytes->length = 0;
+    if (in == NULL)
+        return cannot("read", path, errno);
+    while (reason == 0 && !feof(in))
+        reason = read_on(in, bytes);
     fclose(in);
     return reason == 0 ? 0 : cannot("read", path, reason);
 }

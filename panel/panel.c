@@ -1,4 +1,4 @@
-/* The panel program: checks, runs, packs and unpacks programs by the proved library.
+/* The panel program: checks, runs, packs and unpacks programs by the proved library, and makes arguments of surveys.
  *
  * Standard output has the answer and nothing else, so that other programs can read it. What it means stands on standard error. */
 #define _XOPEN_SOURCE 700
@@ -80,15 +80,85 @@ static int check(int count, char **words)
     return GOOD;
 }
 
-/* Says all of a result, some numbers a line. */
-static void say_result(unsigned long length)
+/* Says all bytes of a result or an argument, some numbers a line. */
+static void say_bytes(const char *what, const uint8_t *bytes, unsigned long length)
 {
     unsigned long k;
 
-    say("result");
-    for (k = 0; k < length; k++)
-        say(k > 0 && k % 24 == 0 ? "\n       %u" : " %u", (unsigned)output[k]);
+    say("%s", what);
+    for (k = 0; k < length; k++) {
+        if (k > 0 && k % 24 == 0)
+            say("\n%*s", (int)strlen(what), "");
+        say(" %u", (unsigned)bytes[k]);
+    }
     say("\nlength %lu\n", length);
+}
+
+/* Reads a survey and has its list made. Gives 0 with the library's number, or UNUSABLE. */
+static int make_list(const struct survey_words *words, struct survey *survey, uint32_t *number)
+{
+    if (read_survey(words, survey) != 0)
+        return UNUSABLE;
+    *number = bedrafoly_lines(survey->text.at, survey->text.length, survey->table.at, survey->table.length, (uint8_t)words->cons,
+                              (uint8_t)words->nil, survey->list.at, survey->list.length, answer, BEDRAFOLY_LINES_ANSWER);
+    return 0;
+}
+
+/* Ends a command by why its survey is refused. */
+static int end_survey(uint32_t number, const struct survey *survey)
+{
+    flush(); /* the answer comes before its meaning */
+    explain_survey(number, (uint32_t)word(1), survey);
+    return REFUSED;
+}
+
+static int lines(int count, char **words)
+{
+    struct survey_words asked;
+    struct survey survey;
+    uint32_t number;
+    int status;
+
+    (void)count;
+    if (read_lines_words(words, &asked) != 0)
+        return UNUSABLE;
+    status = make_list(&asked, &survey, &number);
+    if (status == 0 && number == BEDRAFOLY_DONE) {
+        say_bytes("argument", survey.list.at, word(3));
+    } else if (status == 0) {
+        say_refused(number);
+        status = end_survey(number, &survey);
+    }
+    give_back_survey(&survey);
+    return status;
+}
+
+/* Puts a survey's list behind the arguments. What finds no room is dropped: there is room for one byte more than a run takes. */
+static void add_argument(const struct bytes *list, size_t *length)
+{
+    size_t room = sizeof arguments - *length;
+    size_t added = list->length < room ? list->length : room;
+
+    memcpy(arguments + *length, list->at, added);
+    *length += added;
+}
+
+/* Adds the survey that a run names. Where it is refused nothing is run. */
+static int add_survey(struct run_words *asked)
+{
+    struct survey survey;
+    uint32_t number;
+    int status = make_list(&asked->survey, &survey, &number);
+
+    if (status == 0 && number == BEDRAFOLY_DONE) {
+        add_argument(&survey.list, &asked->length);
+    } else if (status == 0) {
+        say_refused(number);
+        say("steps 0\n");
+        status = end_survey(number, &survey);
+    }
+    give_back_survey(&survey);
+    return status;
 }
 
 static int run(int count, char **words)
@@ -96,15 +166,19 @@ static int run(int count, char **words)
     struct run_words asked;
     size_t length;
     uint32_t number;
+    int status;
 
     if (read_run_words(count, words, &asked, arguments, sizeof arguments) != 0)
         return UNUSABLE;
     if (read_file(asked.file, input, sizeof input, &length) != 0)
         return UNUSABLE;
+    status = asked.survey.text == NULL ? 0 : add_survey(&asked);
+    if (status != 0)
+        return status;
     number = bedrafoly_run_within(input, length, asked.entry, arguments, asked.length, asked.lent[BUDGET], asked.lent[CELLS],
                                   asked.lent[STACK], asked.lent[FRAMES], output, sizeof output, answer, BEDRAFOLY_RUN_ANSWER);
     if (number == BEDRAFOLY_DONE)
-        say_result(word(4));
+        say_bytes("result", output, word(4));
     else
         say_refused(number);
     say("steps %lu\n", word(3));
@@ -144,12 +218,36 @@ static int unpack(int count, char **words)
     return store(bedrafoly_unpack(input, length, output, sizeof output, answer, BEDRAFOLY_UNPACK_ANSWER), "unpacked", words[1]);
 }
 
-static int help(void)
+static void help_lending(void)
 {
     int k;
 
+    say("These OPTIONS lend the run less than the most, to see how little a program needs or how\n"
+        "it does in a smaller unit:\n");
+    for (k = 0; k < LOANS; k++)
+        say("  %-8s N  N of the %lu %s%s\n", loans[k].option, (unsigned long)loans[k].most, loans[k].name, loans[k].use);
+    say("\n");
+}
+
+static void help_survey(void)
+{
+    int k;
+
+    say("These go together. They put a survey behind ARGUMENTS as a list, as in 'panel run FILE 0\n"
+        "--survey TEXT --codes CODES --cons 3 --nil 2'. lines takes the same, as words:\n");
+    for (k = 0; k < PARTS; k++)
+        say("  %-8s %-5s  %s\n", parts[k].option, parts[k].name, parts[k].use);
+    say("An entry of CODES is three letters, spaces or tabs, and a constructor number, 0 to 255.\n"
+        "Blank lines and lines that begin with # are passed over. Where letters stand twice the\n"
+        "earlier entry counts.\n"
+        "\n");
+}
+
+static int help(void)
+{
     say("panel check FILE                              the verdict on a program\n"
         "panel run FILE ENTRY [ARGUMENTS..] [OPTIONS]  run its function number ENTRY\n"
+        "panel lines TEXT CODES CONS NIL               a survey as an argument of a run\n"
         "panel pack PAYLOAD FILE                       store a payload in blocks\n"
         "panel unpack FILE PAYLOAD                     take the payload out of the blocks\n"
         "\n");
@@ -157,19 +255,17 @@ static int help(void)
         "then its arguments. Spaces or commas stand between them, as in 'panel run FILE 0 3 1 2';\n"
         "or they are one @FILE that holds them as bytes.\n"
         "\n");
-    say("OPTIONS lend the run less than the most, to see how little a program needs or how it\n"
-        "does in a smaller unit:\n");
-    for (k = 0; k < LOANS; k++)
-        say("  %-8s N  N of the %lu %s%s\n", loans[k].option, (unsigned long)loans[k].most, loans[k].name, loans[k].use);
-    say("\n");
+    help_lending();
+    help_survey();
     say("check says 'accepted' and how many types, constructors and functions there are. run\n"
         "says 'result' with its constructor numbers, its length and the steps taken, or 'gave\n"
-        "up' where the program stopped by itself. pack and unpack say how many bytes were\n"
-        "written. All say 'refused', a number and two places where that is the answer, and on\n"
-        "standard error what it means and who can mend it.\n"
+        "up' where the program stopped by itself. lines says 'argument' with the list's numbers\n"
+        "and its length. pack and unpack say how many bytes were written. All say 'refused', a\n"
+        "number and two places where that is the answer, and on standard error what it means and\n"
+        "who can mend it.\n"
         "\n");
-    say("Exit status: 0 accepted, a result or written; 1 refused or gave up; 2 bad usage, or a\n"
-        "file or standard output that cannot be read or written.\n");
+    say("Exit status: 0 accepted, a result, an argument or written; 1 refused or gave up; 2 bad\n"
+        "usage, no memory, or a file or standard output that cannot be read or written.\n");
     return GOOD;
 }
 
@@ -181,6 +277,7 @@ static const struct command {
 } commands[] = {
     {"check", "FILE", 1, check},
     {"run", "", -1, run},
+    {"lines", "TEXT, CODES, CONS and NIL", PARTS, lines},
     {"pack", "PAYLOAD and FILE", 2, pack},
     {"unpack", "FILE and PAYLOAD", 2, unpack},
 };
@@ -228,7 +325,7 @@ int main(int argc, char **argv)
             status = help();
     }
     if (argc < 2) {
-        fputs("panel: a command is needed: check, run, pack or unpack; 'panel --help' says more\n", stderr);
+        fputs("panel: a command is needed: check, run, lines, pack or unpack; 'panel --help' says more\n", stderr);
         status = UNUSABLE;
     }
     if (status < 0)

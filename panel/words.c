@@ -1,4 +1,4 @@
-/* The words behind `run`. */
+/* The words behind `run` and `lines`. */
 #include <stdio.h>
 #include <string.h>
 
@@ -15,8 +15,14 @@ const struct loan loans[LOANS] = {
     {"--frames", BEDRAFOLY_FRAMES, "frames", ": one for ENTRY and one for each call under way"},
 };
 
-/* Reads decimal digits and nothing else, no number above `most`. Gives 1 where that is what stands there. */
-static int read_number(const char *text, size_t length, uint32_t most, uint32_t *number)
+const struct part parts[PARTS] = {
+    {"TEXT", "--survey", "the survey, one find a line: three capital letters, then byte 10"},
+    {"CODES", "--codes", "what the letters stand for, one entry a line, as in 'ROO 1'"},
+    {"CONS", "--cons", "the constructor of a list that has a first find, 0 to 255"},
+    {"NIL", "--nil", "the constructor of the empty list, 0 to 255"},
+};
+
+int read_number(const char *text, size_t length, uint32_t most, uint32_t *number)
 {
     uint64_t sum = 0;
     size_t k;
@@ -105,43 +111,99 @@ static int read_arguments(struct reading *reading, const char *word)
     return read_file(word + 1, reading->bytes, reading->room, &reading->length);
 }
 
-/* Options as they are read: what is lent, and which were given. */
-struct lending {
+/* The options of a run: those that lend, then those of a survey. */
+enum { OPTIONS = LOANS + PARTS };
+
+/* Options as they are read: what is lent, and the word behind each that was given. */
+struct options {
     uint32_t *lent;
-    int given[LOANS];
+    char *given[OPTIONS];
 };
 
-/* Reads an option and the word behind it, which is NULL where there is none. */
-static int read_option(struct lending *lending, const char *option, const char *word)
+static const char *option_of(int k)
 {
-    int k = 0;
+    return k < LOANS ? loans[k].option : parts[k - LOANS].option;
+}
 
-    while (k < LOANS && strcmp(option, loans[k].option) != 0)
+/* Whether the word behind an option can be what it needs. An option behind one that needs a file shows that the file is missing. */
+static int can_be(const char *word, int file)
+{
+    return word != NULL && !(file && strncmp(word, "--", 2) == 0);
+}
+
+/* Reads an option and the word behind it, which is NULL where there is none. */
+static int read_option(struct options *options, const char *option, char *word)
+{
+    int k = 0, file;
+
+    while (k < OPTIONS && strcmp(option, option_of(k)) != 0)
         k++;
-    if (k == LOANS)
+    file = k == LOANS + SURVEY || k == LOANS + CODES;
+    if (k == OPTIONS)
         fprintf(stderr, "panel: unknown option '%s'; 'panel --help' says more\n", option);
-    else if (lending->given[k])
+    else if (options->given[k] != NULL)
         fprintf(stderr, "panel: %s is given twice\n", option);
-    else if (word == NULL)
-        fprintf(stderr, "panel: %s needs a number behind it\n", option);
+    else if (!can_be(word, file))
+        fprintf(stderr, "panel: %s needs a %s behind it\n", option, file ? "file" : "number");
     else {
-        lending->given[k] = 1;
-        return read_word(option, word, loans[k].most, &lending->lent[k]);
+        options->given[k] = word;
+        return k < LOANS ? read_word(option, word, loans[k].most, &options->lent[k]) : 0;
     }
     return UNUSABLE;
+}
+
+/* Reads the parts of a survey, the numbers under these names. */
+static int read_parts(char *const *words, const char *cons, const char *nil, struct survey_words *survey)
+{
+    int wrong = read_word(cons, words[CONS], 255, &survey->cons);
+
+    survey->text = words[SURVEY];
+    survey->codes = words[CODES];
+    return wrong ? wrong : read_word(nil, words[NIL], 255, &survey->nil);
+}
+
+int read_lines_words(char *const *words, struct survey_words *survey)
+{
+    return read_parts(words, parts[CONS].name, parts[NIL].name, survey);
+}
+
+static int some_missing(char *const *given)
+{
+    int k;
+
+    fputs("panel: the options of a survey go together; missing:", stderr);
+    for (k = 0; k < PARTS; k++) {
+        if (given[k] == NULL)
+            fprintf(stderr, " %s", parts[k].option);
+    }
+    fputs("\n", stderr);
+    return UNUSABLE;
+}
+
+/* Reads the options of a survey, which are all given or none. */
+static int read_survey_options(char *const *given, struct survey_words *survey)
+{
+    int k, count = 0;
+
+    for (k = 0; k < PARTS; k++)
+        count += given[k] != NULL;
+    survey->text = NULL;
+    if (count == 0)
+        return 0;
+    return count < PARTS ? some_missing(given) : read_parts(given, parts[CONS].option, parts[NIL].option, survey);
 }
 
 int read_run_words(int count, char **words, struct run_words *run, uint8_t *bytes, size_t room)
 {
     struct reading reading = {bytes, room, 0, 0, 0, 0};
-    struct lending lending = {run->lent, {0}};
+    struct options options = {run->lent, {NULL}};
     int k, plain = 0, wrong = 0;
 
     for (k = 0; k < LOANS; k++)
         run->lent[k] = loans[k].most;
     for (k = 0; k < count && !wrong; k++) {
         if (strncmp(words[k], "--", 2) == 0) {
-            wrong = read_option(&lending, words[k], k + 1 < count ? words[k + 1] : NULL);
+            wrong = read_option(&options, words[k], k + 1 < count ? words[k + 1] : NULL);
             k++;
         } else if (plain == 0) {
             run->file = words[k];
@@ -159,6 +221,8 @@ int read_run_words(int count, char **words, struct run_words *run, uint8_t *byte
     }
     if (!wrong && reading.comma)
         wrong = lone_comma();
+    if (!wrong)
+        wrong = read_survey_options(options.given + LOANS, &run->survey);
     run->length = reading.length;
     return wrong;
 }

@@ -77,16 +77,30 @@ static void check(char **words)
         say_refused();
 }
 
+/* What was written to the output's front, or why nothing was. */
+static void say_written(const char *kind, int done, size_t room)
+{
+    if (!kept(done ? word(3) : 0, room))
+        printf("output changed");
+    else if (done)
+        say_bytes(kind, word(3));
+    else
+        say_refused();
+}
+
 static void convert(char **words, int packs)
 {
     size_t n = bytes(words[1], first), room = lend_output(words[2]);
     int done = (packs ? bedrafoly_pack : bedrafoly_unpack)(first, n, out, room, answer, BEDRAFOLY_PACK_ANSWER) == 0;
-    if (!kept(done ? word(3) : 0, room))
-        printf("output changed");
-    else if (done)
-        say_bytes(packs ? "packed" : "unpacked", word(3));
-    else
-        say_refused();
+    say_written(packs ? "packed" : "unpacked", done, room);
+}
+
+static void lines(char **words)
+{
+    size_t n = bytes(words[1], first), m = bytes(words[2], second), room = lend_output(words[5]);
+    uint8_t cons = (uint8_t)strtoul(words[3], NULL, 10), nil = (uint8_t)strtoul(words[4], NULL, 10);
+    int done = bedrafoly_lines(first, n, second, m, cons, nil, out, room, answer, BEDRAFOLY_LINES_ANSWER) == 0;
+    say_written("lines", done, room);
 }
 
 static void run(char **words)
@@ -121,6 +135,8 @@ int main(void)
             convert(words, 1);
         else if (n == 3 && strcmp(words[0], "unpack") == 0)
             convert(words, 0);
+        else if (n == 6 && strcmp(words[0], "lines") == 0)
+            lines(words);
         else if (n == 9 && strcmp(words[0], "run") == 0)
             run(words);
         else

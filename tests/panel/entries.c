@@ -24,10 +24,10 @@ struct text {
 #define TEXT(unit, times, tail) {unit, sizeof unit - 1, times, tail, sizeof tail - 1}
 #define NOTHING TEXT("", 0, "")
 
-enum entry { CHECK, RUN, PACK, UNPACK };
+enum entry { CHECK, RUN, PACK, UNPACK, LINES };
 
 static const size_t answer_length[] = {
-    BEDRAFOLY_CHECK_ANSWER, BEDRAFOLY_RUN_ANSWER, BEDRAFOLY_PACK_ANSWER, BEDRAFOLY_UNPACK_ANSWER};
+    BEDRAFOLY_CHECK_ANSWER, BEDRAFOLY_RUN_ANSWER, BEDRAFOLY_PACK_ANSWER, BEDRAFOLY_UNPACK_ANSWER, BEDRAFOLY_LINES_ANSWER};
 
 /* A call, the answer's words, and what the output's front holds then: a text, or the bytes of a file. */
 struct call {
@@ -46,6 +46,16 @@ struct call {
 /* K1 to K14 are those of document 01; K12 and K13, which lend smaller tables, stand below. The numbers 15 to 17 are tried here at
  * the ends of the built-in tables. A list of n roots takes 7n + 3 steps in ROOTS, and n + 1 frames. */
 #define CHECKED(name, file, ...) {name, CHECK, file, 0, NOTHING, 0, 0, {__VA_ARGS__, 0}, NOTHING, NULL}
+
+/* Survey lines: the table is the file, the text stands where a run has arguments, cons and nil where it has function and budget. */
+#define LISTED(name, text, table, cons, nil, room, output, ...) \
+    {name, LINES, table, cons, text, nil, room, {__VA_ARGS__, 0}, output, NULL}
+#define BAD_TABLE(name, table, cons, nil) \
+    LISTED(name, TEXT("", 0, "ROO\n"), table, cons, nil, 16, NOTHING, BEDRAFOLY_BAD_TABLE, 0, 0, 0)
+/* A wrong line as the first one, and behind two that are right. */
+#define BAD_LINE(name, line) \
+    LISTED(name, TEXT("", 0, line), "roots.table", 3, 2, 16, NOTHING, BEDRAFOLY_BAD_LINE, 1, 0, 0), \
+    LISTED(name " behind two", TEXT("ROO\n", 2, line), "roots.table", 3, 2, 16, NOTHING, BEDRAFOLY_BAD_LINE, 3, 0, 0)
 static const struct call calls[] = {
     CHECKED("K2", "roots", 0, 3, 6, 1),
     CHECKED("K3", "k3", BEDRAFOLY_UNBOUNDED_ARGUMENT, 0, 1, 0),
@@ -103,6 +113,61 @@ static const struct call calls[] = {
     {"unpack the longest", UNPACK, "all", 0, NOTHING, 0, 40000, {0, 0, 0, 32256, 0}, NOTHING, "all.payload"},
     {"unpack too short", UNPACK, "roots", 0, NOTHING, 0, 115, {BEDRAFOLY_OUTPUT_TOO_SHORT, 116, 0, 0, 0}, NOTHING, NULL},
     {"unpack a damaged file", UNPACK, "spoilt", 0, NOTHING, 0, 40000, {BEDRAFOLY_BAD_CHECKSUM, 63, 0, 0, 0}, NOTHING, NULL},
+
+    LISTED("two lines", TEXT("", 0, "ROO\nCRA\n"), "roots.table", 3, 2, 16, TEXT("", 0, "\3\1\3\0\2"), 0, 0, 0, 5),
+    LISTED("no line", NOTHING, "roots.table", 3, 2, 16, TEXT("", 0, "\2"), 0, 0, 0, 1),
+    LISTED("no line, no table", NOTHING, "empty", 3, 2, 16, TEXT("", 0, "\2"), 0, 0, 0, 1),
+    LISTED("letters twice", TEXT("", 0, "ROO\nCRA\n"), "twice.table", 3, 2, 16, TEXT("", 0, "\3\1\3\0\2"), 0, 0, 0, 5),
+    LISTED("the greatest numbers", TEXT("", 0, "ZZZ\nAAA\n"), "ends.table", 255, 0, 9, TEXT("", 0, "\377\377\377\0\0"), 0, 0, 0, 5),
+    LISTED("the least numbers", TEXT("", 0, "AAA\nZZZ\n"), "ends.table", 0, 255, 9, TEXT("", 0, "\0\0\0\377\377"), 0, 0, 0, 5),
+    LISTED("codes like cons and nil", TEXT("", 0, "ROO\nCRA\n"), "roots.table", 1, 0, 9, TEXT("", 0, "\1\1\1\0\0"), 0, 0, 0, 5),
+    LISTED("40,000 lines", TEXT("ROO\n", 40000, ""), "roots.table", 3, 2, 80100, TEXT("\3\1", 40000, "\2"), 0, 0, 0, 80001),
+
+    LISTED("room for just a list", TEXT("", 0, "ROO\nCRA\n"), "roots.table", 3, 2, 5, TEXT("", 0, "\3\1\3\0\2"), 0, 0, 0, 5),
+    LISTED("room for 4 of 5", TEXT("", 0, "ROO\nCRA\n"), "roots.table", 3, 2, 4, NOTHING, BEDRAFOLY_OUTPUT_TOO_SHORT, 5, 0, 0),
+    LISTED("no room for a list", TEXT("", 0, "ROO\nCRA\n"), "roots.table", 3, 2, 0, NOTHING, BEDRAFOLY_OUTPUT_TOO_SHORT, 5, 0, 0),
+    LISTED("room for just nil", NOTHING, "roots.table", 3, 2, 1, TEXT("", 0, "\2"), 0, 0, 0, 1),
+    LISTED("no room for nil", NOTHING, "empty", 3, 2, 0, NOTHING, BEDRAFOLY_OUTPUT_TOO_SHORT, 1, 0, 0),
+    LISTED("room for 80,000 of 80,001", TEXT("ROO\n", 40000, ""), "roots.table", 3, 2, 80000, NOTHING, BEDRAFOLY_OUTPUT_TOO_SHORT,
+           80001, 0, 0),
+
+    BAD_TABLE("a table of 7 bytes", "cut7.table", 3, 2),
+    BAD_TABLE("a table of 6 bytes", "cut6.table", 3, 2),
+    BAD_TABLE("a table of 5 bytes", "cut5.table", 3, 2),
+    BAD_TABLE("a table of 3 bytes", "cut3.table", 3, 2),
+    BAD_TABLE("a first letter before A", "first.table", 3, 2),
+    BAD_TABLE("a second letter behind Z", "second.table", 3, 2),
+    BAD_TABLE("a third letter that is small", "third.table", 3, 2),
+    BAD_TABLE("wrong letters in the last entry", "last.table", 3, 2),
+    BAD_TABLE("cons is nil", "roots.table", 3, 3),
+    BAD_TABLE("both are 0", "roots.table", 0, 0),
+    BAD_TABLE("both are 255", "roots.table", 255, 255),
+    LISTED("cons is nil of nothing", NOTHING, "empty", 2, 2, 16, NOTHING, BEDRAFOLY_BAD_TABLE, 0, 0, 0),
+    LISTED("wrong letters that no line needs", NOTHING, "last.table", 3, 2, 16, NOTHING, BEDRAFOLY_BAD_TABLE, 0, 0, 0),
+
+    BAD_LINE("no byte 10", "ROO"),
+    BAD_LINE("no byte 10 and two letters", "RO"),
+    BAD_LINE("an empty line", "\n"),
+    BAD_LINE("an empty line before another", "\nROO\n"),
+    BAD_LINE("two letters", "RO\n"),
+    BAD_LINE("two letters before another line", "RO\nROO\n"),
+    BAD_LINE("four letters", "ROOT\n"),
+    BAD_LINE("two lines without an end", "ROOCRA\n"),
+    BAD_LINE("a line's first letter before A", "@OO\n"),
+    BAD_LINE("a line's second letter behind Z", "R[O\n"),
+    BAD_LINE("a line's third letter that is small", "ROo\n"),
+    BAD_LINE("a carriage return", "ROO\r\n"),
+    BAD_LINE("a carriage return alone", "ROO\r"),
+    BAD_LINE("a byte over 127", "RO\303\n"),
+    BAD_LINE("letters that no entry has", "OOR\n"),
+    BAD_LINE("letters that no entry has, and a worse line", "OOR\nR\n"),
+    LISTED("no table for a line", TEXT("", 0, "ROO\n"), "empty", 3, 2, 16, NOTHING, BEDRAFOLY_BAD_LINE, 1, 0, 0),
+    LISTED("line 40,001", TEXT("ROO\n", 40000, "ROT\n"), "roots.table", 3, 2, 80100, NOTHING, BEDRAFOLY_BAD_LINE, 40001, 0, 0),
+
+    /* 19 comes before 20, and that before 13. */
+    LISTED("a wrong table and line", TEXT("", 0, "ROT\n"), "last.table", 3, 2, 0, NOTHING, BEDRAFOLY_BAD_TABLE, 0, 0, 0),
+    LISTED("cons is nil, and a wrong line", TEXT("", 0, "ROT\n"), "roots.table", 3, 3, 0, NOTHING, BEDRAFOLY_BAD_TABLE, 0, 0, 0),
+    LISTED("a wrong line and no room", TEXT("", 0, "ROO\nROT\n"), "roots.table", 3, 2, 0, NOTHING, BEDRAFOLY_BAD_LINE, 2, 0, 0),
 };
 #define CALLS (sizeof calls / sizeof calls[0])
 
@@ -252,6 +317,9 @@ static uint32_t perform(const struct call *call, const struct tables *tables, st
                              answer.at, answer.length);
     case PACK: return bedrafoly_pack(file.at, file.length, out.at, out.length, answer.at, answer.length);
     case UNPACK: return bedrafoly_unpack(file.at, file.length, out.at, out.length, answer.at, answer.length);
+    case LINES:
+        return bedrafoly_lines(arguments.at, arguments.length, file.at, file.length, (uint8_t)call->function, (uint8_t)call->budget,
+                               out.at, out.length, answer.at, answer.length);
     }
     return MOST;
 }

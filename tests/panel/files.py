@@ -52,6 +52,8 @@ LONG = payload(2, COUNTED + TREES, [
 
 ALL = bytes(k % 256 for k in range(64 * 504))  # the longest payload
 
+TABLE = b'CRA\0ROO\1'  # what a survey's letters stand for in ROOTS
+
 FILES = {
     'roots': packed(ROOTS), 'roots.payload': ROOTS,
     'k3': packed(roots(bound=((0,), 5))), 'k4': packed(roots(12, 9, [build(5)])), 'k5': packed(roots(outer=3)),
@@ -65,6 +67,11 @@ FILES = {
     'deep': packed(DEEP), 'deep.result': bytes([1] * 4095 + [0] * 4096),
     'list': bytes([3, 1, 2]), 'numbers4096': bytes([1] * 4095 + [0]), 'toolong': bytes(70000),
     'count95': bytes([1] * 95 + [0]), 'count96': bytes([1] * 96 + [0]),
+    'roots.table': TABLE, 'twice.table': TABLE + b'ROO\7CRA\7', 'ends.table': b'AAA\0ZZZ\xff',
+    'cut7.table': TABLE[:7], 'cut6.table': TABLE[:6], 'cut5.table': TABLE[:5], 'cut3.table': TABLE[:3],
+    'first.table': changed(TABLE, 0, ord('@')), 'second.table': changed(TABLE, 1, ord('[')),
+    'third.table': changed(TABLE, 2, ord('a')), 'last.table': TABLE + b'ROO\1rOO\1',
+    'survey': b'ROO\nCRA\nROO\n', 'codes': b'CRA 0\nROO 1\n',
 }
 
 
