@@ -205,7 +205,7 @@ def survey(part):
     return Survey(b''.join(word + b'\n' for word in chance.choices(words, k=MOST_LINES // part)), table)
 
 
-# The longest list of roots whose run fits the largest tables.
+# The longest list of roots whose run fits the largest tables: it fills the stack. Of the cells lent 65,471 are used.
 MOST_ROOTS = 21844
 LARGEST_TABLES = dict(cells=327675, stack=65535, frames=65535, out=65536)
 

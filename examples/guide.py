@@ -122,8 +122,10 @@ COMMANDS = [
     ('nothing packed', "pack(b'', 512)"),
     # 14 to 17
     ('budget 9 (K9)', "run(budget=9)"),
-    ('20 numbers, which are 4 cells (K13)', "run(cells=20)"),
-    ('14 numbers, which are 2 cells', "run(cells=14)"),
+    ('5 numbers, which are 1 cell (K13)', "run(cells=5)"),
+    ('10 numbers, which are 2 cells (K13)', "run(cells=10)"),
+    ('4 numbers, which are no cell', "run(cells=4)"),
+    ('no cell, for nil alone (K7)', "run(arguments=(2,), cells=0)"),
     ('5 stack places (K12)', "run(stack=5)"),
     ('1 frame', "run(frames=1)"),
     ('no frame', "run(frames=0)"),

@@ -72,7 +72,8 @@ enum bedrafoly_number {
 
     /* The budget's steps are taken. */
     BEDRAFOLY_BUDGET_SPENT = 14,
-    /* The cells do not suffice: each argument byte and each build takes one, and none is used again. */
+    /* The cells do not suffice: each argument byte and each build whose constructor has arguments takes one, and none is used
+     * again. */
     BEDRAFOLY_OUT_OF_CELLS = 15,
     /* The stack does not suffice for all frames together. */
     BEDRAFOLY_OUT_OF_STACK = 16,

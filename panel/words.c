@@ -10,7 +10,7 @@
 
 const struct loan loans[LOANS] = {
     {"--budget", MOST_32, "steps", " that a run may take"},
-    {"--cells", BEDRAFOLY_CELLS, "cells", ": each argument byte and each build takes one"},
+    {"--cells", BEDRAFOLY_CELLS, "cells", ": one for each value with arguments, given or built"},
     {"--stack", BEDRAFOLY_STACK, "stack places", ": the heights of all frames, added up"},
     {"--frames", BEDRAFOLY_FRAMES, "frames", ": one for ENTRY and one for each call under way"},
 };

@@ -4,19 +4,16 @@ mod arguments;
 mod code;
 mod figure;
 mod steps;
+mod values;
 
 use crate::check::examine;
 use crate::decode::Program;
 use crate::Refusal;
 use steps::{End, Machine, Top};
+use values::{CELL, MOST_CELLS};
 
-/// Numbers in a cell: a constructor and four arguments.
-const CELL: usize = 5;
-/// The most entries used of each table, and the most argument bytes.
+/// The most stack places and frames used, and the most argument bytes.
 const MOST: usize = 65_535;
-
-/// A cell: a constructor and its arguments, with zeros past its arity.
-type Cell = [u16; CELL];
 
 /// A waiting frame: its function, the instruction of its call, and the height of its stack.
 #[derive(Clone, Copy, Debug, Default, PartialEq, Eq)]
@@ -52,7 +49,7 @@ pub struct Tables<'a> {
 impl Tables<'_> {
     /// The usable entries alone.
     fn usable(&mut self) -> Tables<'_> {
-        let cells = MOST.min(self.cells.len() / CELL);
+        let cells = MOST_CELLS.min(self.cells.len() / CELL);
         let stack = MOST.min(self.stack.len());
         let frames = MOST.min(self.frames.len());
         Tables {
@@ -101,7 +98,7 @@ fn admit(file: &[u8], entry: usize, arguments: &[u8], tables: &Tables) -> Result
         .get(entry)
         .ok_or(Refusal::new(11, entry, 0))?;
     let signature = function.signature;
-    arguments::check(&program.constructors, &signature, arguments)
+    let needed = arguments::check(&program.constructors, &signature, arguments)
         .map_err(|offset| Refusal::new(12, offset, 0))?;
     if tables.frames.is_empty() {
         return Err(Refusal::new(17, entry, 1));
@@ -109,7 +106,7 @@ fn admit(file: &[u8], entry: usize, arguments: &[u8], tables: &Tables) -> Result
     if tables.stack.len() < signature.arity() {
         return Err(Refusal::new(16, entry, 1));
     }
-    if tables.cells.len() / CELL < arguments.len() {
+    if tables.cells.len() / CELL < needed {
         return Err(Refusal::new(15, entry, 1));
     }
     Ok(program)
@@ -125,7 +122,7 @@ fn begin(
     out: &mut [u8],
 ) -> Answer {
     let cells = tables.cells.as_chunks_mut().0;
-    let height = arguments::load(&program.constructors, arguments, cells, tables.stack);
+    let loaded = arguments::load(&program.constructors, arguments, cells, tables.stack);
     let mut machine = Machine {
         code: &code::translate(program),
         cells,
@@ -133,15 +130,15 @@ fn begin(
         frames: tables.frames,
     };
     let start = Top {
-        used: arguments.len(),
+        used: loaded.cells,
         waiting: 0,
         next: program.functions[entry].code.start,
         base: 0,
-        end: height,
+        end: loaded.height,
     };
     let stopped = machine.drive(start, budget);
     let ending = match stopped.end {
-        End::Figure(cell) => figure::deliver(&program.constructors, cells, cell, out),
+        End::Figure(value) => figure::deliver(&program.constructors, cells, value, out),
         End::GaveUp => Ending::GaveUp,
         End::Short(number) => Ending::Refused(refusal_at(program, number, stopped.place)),
     };

@@ -91,7 +91,7 @@ fn was_wiped<T: PartialEq>(
 
 /// Whether a run had begun, by what all three tables hold.
 fn begun(cells: &[u16], stack: &[u16], frames: &[Frame]) -> &'static str {
-    let usable_cells = 5 * (cells.len() / 5).min(65_535);
+    let usable_cells = 5 * (cells.len() / 5).min(65_471);
     let found = [
         was_wiped(cells, usable_cells, &NUMBER, &0),
         was_wiped(stack, stack.len().min(65_535), &NUMBER, &0),

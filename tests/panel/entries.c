@@ -98,10 +98,10 @@ static const struct call calls[] = {
     {"256 frames", RUN, "roots", 0, TEXT("\3\1", 255, "\2"), MOST, 256, {0, 0, 0, 1788, 256}, TEXT("\5", 255, "\4"), NULL},
     {"257 frames", RUN, "roots", 0, TEXT("\3\1", 256, "\2"), MOST, 256, {BEDRAFOLY_OUT_OF_FRAMES, 0, 5, 1279, 0}, NOTHING, NULL},
     {"2,049 stack places", RUN, "tables", 1, TEXT("", 0, "\0"), MOST, 9, {BEDRAFOLY_OUT_OF_STACK, 1, 16, 2047, 0}, NOTHING, NULL},
-    {"4,096 cells", RUN, "tables", 0, TEXT("\1", 4094, "\0"), MOST, 4096, {0, 0, 0, 2, 4096}, TEXT("\1", 4095, "\0"), NULL},
-    {"4,097 cells", RUN, "tables", 0, TEXT("\1", 4095, "\0"), MOST, 4097, {BEDRAFOLY_OUT_OF_CELLS, 0, 2, 1, 0}, NOTHING, NULL},
-    {"4,097 arguments", RUN, "tables", 0, TEXT("\1", 4096, "\0"), MOST, 9, {BEDRAFOLY_OUT_OF_CELLS, 0, 1, 0, 0}, NOTHING, NULL},
-    {"4,095 levels", RUN, "deep", 0, NOTHING, MOST, 8191, {0, 0, 0, 8402, 8191}, NOTHING, "deep.result"},
+    {"4,096 cells", RUN, "tables", 0, TEXT("\1", 4095, "\0"), MOST, 4097, {0, 0, 0, 2, 4097}, TEXT("\1", 4096, "\0"), NULL},
+    {"4,097 cells", RUN, "tables", 0, TEXT("\1", 4096, "\0"), MOST, 4098, {BEDRAFOLY_OUT_OF_CELLS, 0, 2, 1, 0}, NOTHING, NULL},
+    {"4,097 in arguments", RUN, "tables", 0, TEXT("\1", 4097, "\0"), MOST, 9, {BEDRAFOLY_OUT_OF_CELLS, 0, 1, 0, 0}, NOTHING, NULL},
+    {"4,096 levels", RUN, "deep", 0, NOTHING, MOST, 8193, {0, 0, 0, 8578, 8193}, NOTHING, "deep.result"},
 
     {"K1", PACK, "seven.payload", 0, NOTHING, 0, 512, {0, 0, 0, 512, 0}, TEXT("\0\0\1\0\7", 1, ""), NULL},
     {"pack ROOTS", PACK, "roots.payload", 0, NOTHING, 0, 600, {0, 0, 0, 512, 0}, NOTHING, "roots"},
@@ -192,21 +192,22 @@ static const struct other_run {
 } other_runs[] = {
     {"K12 with 5", "K6", {CELLS, 5, FRAMES}, {BEDRAFOLY_OUT_OF_STACK, 0, 11, 7, 0}},
     {"K12 with 6", "K6", {CELLS, 6, FRAMES}, {0, 0, 0, 10, 2}},
-    {"K13 with 4", "K6", {4, STACK, FRAMES}, {BEDRAFOLY_OUT_OF_CELLS, 0, 6, 9, 0}},
-    {"K13 with 5", "K6", {5, STACK, FRAMES}, {0, 0, 0, 10, 2}},
+    {"K13 with 1", "K6", {1, STACK, FRAMES}, {BEDRAFOLY_OUT_OF_CELLS, 0, 6, 9, 0}},
+    {"K13 with 2", "K6", {2, STACK, FRAMES}, {0, 0, 0, 10, 2}},
     {"K6 in one frame", "K6", {CELLS, STACK, 1}, {BEDRAFOLY_OUT_OF_FRAMES, 0, 5, 4, 0}},
-    {"K6 in the least", "K6", {5, 6, 2}, {0, 0, 0, 10, 2}},
-    {"K7 in 1 cell", "K7", {1, STACK, FRAMES}, {BEDRAFOLY_OUT_OF_CELLS, 0, 11, 2, 0}},
-    {"K7 in 2 cells", "K7", {2, STACK, FRAMES}, {0, 0, 0, 3, 1}},
-    {"K9 with 9, in 4 cells", "K9 with 9", {4, STACK, FRAMES}, {BEDRAFOLY_BUDGET_SPENT, 0, 6, 9, 0}},
-    {"room for 1 of 2, in the least", "room for 1 of 2", {5, 6, 2}, {BEDRAFOLY_OUTPUT_TOO_SHORT, 2, 0, 10, 0}},
+    {"K6 in the least", "K6", {2, 6, 2}, {0, 0, 0, 10, 2}},
+    {"K7 in no cell", "K7", {0, STACK, FRAMES}, {0, 0, 0, 3, 1}},
+    {"K7 in the least", "K7", {0, 3, 1}, {0, 0, 0, 3, 1}},
+    {"K8 in 1 cell", "K8", {1, STACK, FRAMES}, {0, 0, 0, 10, 1}},
+    {"K9 with 9, in 1 cell", "K9 with 9", {1, STACK, FRAMES}, {BEDRAFOLY_BUDGET_SPENT, 0, 6, 9, 0}},
+    {"room for 1 of 2, in the least", "room for 1 of 2", {2, 6, 2}, {BEDRAFOLY_OUTPUT_TOO_SHORT, 2, 0, 10, 0}},
 
     /* For loading 17 comes before 16 and that before 15; what is wrong with the call comes before all of them. */
-    {"no cell", "K7", {0, STACK, FRAMES}, {BEDRAFOLY_OUT_OF_CELLS, 0, 1, 0, 0}},
-    {"no stack place", "K7", {CELLS, 0, FRAMES}, {BEDRAFOLY_OUT_OF_STACK, 0, 1, 0, 0}},
-    {"no frame", "K7", {CELLS, STACK, 0}, {BEDRAFOLY_OUT_OF_FRAMES, 0, 1, 0, 0}},
-    {"no cell and no stack place", "K7", {0, 0, FRAMES}, {BEDRAFOLY_OUT_OF_STACK, 0, 1, 0, 0}},
-    {"nothing", "K7", {0, 0, 0}, {BEDRAFOLY_OUT_OF_FRAMES, 0, 1, 0, 0}},
+    {"no cell", "K6", {0, STACK, FRAMES}, {BEDRAFOLY_OUT_OF_CELLS, 0, 1, 0, 0}},
+    {"no stack place", "K6", {CELLS, 0, FRAMES}, {BEDRAFOLY_OUT_OF_STACK, 0, 1, 0, 0}},
+    {"no frame", "K6", {CELLS, STACK, 0}, {BEDRAFOLY_OUT_OF_FRAMES, 0, 1, 0, 0}},
+    {"no cell and no stack place", "K6", {0, 0, FRAMES}, {BEDRAFOLY_OUT_OF_STACK, 0, 1, 0, 0}},
+    {"nothing", "K6", {0, 0, 0}, {BEDRAFOLY_OUT_OF_FRAMES, 0, 1, 0, 0}},
     {"K11 in nothing", "K11", {0, 0, 0}, {BEDRAFOLY_BAD_ARGUMENT, 0, 0, 0, 0}},
     {"K14 in one frame alone", "K14", {0, 0, 1}, {BEDRAFOLY_GAVE_UP, 0, 0, 1, 0}},
     {"K14 in nothing", "K14", {0, 0, 0}, {BEDRAFOLY_OUT_OF_FRAMES, 0, 1, 0, 0}},
@@ -215,8 +216,8 @@ static const struct other_run {
     {"4,096 cells, 4,095 lent", "4,096 cells", {4095, STACK, FRAMES}, {BEDRAFOLY_OUT_OF_CELLS, 0, 2, 1, 0}},
     {"2,049 stack places, 2,047 lent", "2,049 stack places", {CELLS, 2047, FRAMES}, {BEDRAFOLY_OUT_OF_STACK, 1, 15, 2046, 0}},
 
-    /* Numbers that would be small if their upper bits got lost: 4 cells, 5 places, 1 frame, and 5 times 858,993,460 is 2^32 + 4. */
-    {"65,540 cells", "K6", {65540, STACK, FRAMES}, {0, 0, 0, 10, 2}},
+    /* Numbers that would be small if their upper bits got lost: 1 cell, 5 places, 1 frame, and 5 times 858,993,460 is 2^32 + 4. */
+    {"65,537 cells", "K6", {65537, STACK, FRAMES}, {0, 0, 0, 10, 2}},
     {"858,993,460 cells", "K6", {858993460, STACK, FRAMES}, {0, 0, 0, 10, 2}},
     {"65,541 stack places", "K6", {CELLS, 65541, FRAMES}, {0, 0, 0, 10, 2}},
     {"65,537 frames", "K6", {CELLS, STACK, 65537}, {0, 0, 0, 10, 2}},
@@ -435,7 +436,7 @@ static void try_other_run(const struct other_run *run)
 
 static void *try_deepest(void *unused)
 {
-    try_answers(named("4,095 levels"), NULL);
+    try_answers(named("4,096 levels"), NULL);
     return unused;
 }
 

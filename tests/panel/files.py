@@ -33,9 +33,9 @@ TABLES = payload(1, NUMBERS, [
     function(0, (0,), [((1,), 0)], [load(1), call(2), RETURN])])
 
 PAIRS = [constructor(0), constructor(0, (0, 0))]  # 0 leaf, 1 pair
-LEVELS, TIMES = 117, 35
+LEVELS, TIMES = 64, 64
 
-# 4,095 pairs over a leaf, each the first argument of the next, and the same leaf beside each: no value of 4,096 cells is deeper.
+# 4,096 pairs over a leaf, each the first argument of the next, and a leaf beside each: no value of 4,096 cells is deeper.
 # The branch is there for the check, which then knows that the second argument is a leaf and adds nothing to the size.
 DEEP = payload(1, PAIRS, [
     function(0, (), [((), LEVELS * TIMES)], [build(0), load(1), *[load(1), call(1)] * TIMES, RETURN]),
@@ -45,7 +45,7 @@ DEEP = payload(1, PAIRS, [
 COUNTED = [constructor(0), constructor(0, (0,), 255)]  # 0 zero, 1 next(count), which weighs much
 TREES = [constructor(1), constructor(1, (1, 1)), constructor(1, (1, 1, 1, 1))]  # 2 leaf, 3 pair, 4 four
 
-# For each step of the count, a pair with a tree of 10,923 bytes that takes 8 cells: 4 * 1 + 1 is 5, then 21, 85, 341, 1365, 5461.
+# For each step of the count, a pair with a tree of 10,923 bytes that takes 7 cells: 4 * 1 + 1 is 5, then 21, 85, 341, 1365, 5461.
 LONG = payload(2, COUNTED + TREES, [
     function(1, (0,), [((15,), 0)], [load(1), branch(1, 7), call(0), call(1), build(3), RETURN, build(2), RETURN]),
     function(1, (), [((), 3824)], [build(2), *[load(1), load(1), load(1), build(4)] * 6, load(1), build(3), RETURN])])
@@ -64,8 +64,8 @@ FILES = {
     'signature': packed(changed(ROOTS, 4 + 8 * 6, 3)), 'slot': packed(changed(ROOTS, 4 + 8 * 6 + 16 + 1, 9)),
     'nested4': packed(nested(4)), 'nested5': packed(nested(5)),
     'seven.payload': b'\7', 'tables': packed(TABLES), 'long': packed(LONG),
-    'deep': packed(DEEP), 'deep.result': bytes([1] * 4095 + [0] * 4096),
-    'list': bytes([3, 1, 2]), 'numbers4096': bytes([1] * 4095 + [0]), 'toolong': bytes(70000),
+    'deep': packed(DEEP), 'deep.result': bytes([1] * 4096 + [0] * 4097),
+    'list': bytes([3, 1, 2]), 'number4096': bytes([1] * 4096 + [0]), 'toolong': bytes(70000),
     'count95': bytes([1] * 95 + [0]), 'count96': bytes([1] * 96 + [0]),
     'roots.table': TABLE, 'twice.table': TABLE + b'ROO\7CRA\7', 'ends.table': b'AAA\0ZZZ\xff',
     'cut7.table': TABLE[:7], 'cut6.table': TABLE[:6], 'cut5.table': TABLE[:5], 'cut3.table': TABLE[:3],

@@ -1,6 +1,7 @@
 """Commands whose answers the papers' lists give: containers that are wrong in one way each, and programs, runs and surveys at both sides of a limit."""
 import os, sys
 sys.path.insert(0, os.path.join(os.path.dirname(os.path.abspath(__file__)), '..', '..', 'model'))
+from cells import cell_limits, long_arguments, long_builds
 from kinds import say
 from programs import RETURN, ROOTS, STOP, block, branch, build, call, constructor, function, load, packed, payload, pieces
 from surveys import long_texts, no_bytes, survey_limits
@@ -54,12 +55,15 @@ def lengths():
 
 
 def damaged():
-    """Containers that are wrong in one way each, every cut of ROOTS, payloads and outputs at the limits of their lengths, and long surveys."""
+    """Containers that are wrong in one way each, every cut of ROOTS, payloads and outputs at the limits of their lengths, and long
+    arguments and surveys."""
     for n in (0, 1, 511, 513, 32769, 33280):
         yield 'unpack %s 40000' % say(bytes(n)), 'refused 1 0 0'
     yield from many_blocks()
     yield from in_three_blocks()
     yield from lengths()
+    yield from long_arguments()
+    yield from long_builds()
     yield from long_texts()
     yield from no_bytes()
     for n in range(512):
@@ -129,11 +133,11 @@ def pending():
 
 
 def table_lengths():
-    """Argument bytes and tables around 65,535: the second run of ROOTS in document 01's list, and bytes that are no arguments."""
+    """Argument bytes, stack places and frames around 65,535 and cells around 65,471: a run of ROOTS, and bytes that are no arguments."""
     file = say(packed(ROOTS))
     for n, place in ((65535, 0), (65536, 65535)):
         yield 'run %s 0 %s 9 20480 2048 256 16' % (file, say(b'\377' * n)), 'refused 12 %d 0 0 0' % place
-    for cells, stack, frames in ((327679, 65535, 256), (327684, 2048, 65536), (327680, 65537, 65535)):
+    for cells, stack, frames in ((327359, 65535, 256), (327360, 2048, 65536), (327675, 65537, 65535)):
         yield 'run %s 0 030102 1000 %d %d %d 16' % (file, cells, stack, frames), 'figure 0504 10 1'
 
 
@@ -200,15 +204,16 @@ def orders_of_tables():
     file = say(packed(ROOTS))
     for words, answer in (
             ('7 030102 0 0 0 0 0', 'refused 11 7 0 0 0'), ('0 0301 0 0 0 0 0', 'refused 12 2 0 0 0'), ('0 030102 0 0 0 0 0', 'refused 17 0 1 0 0'),
-            ('0 030102 0 0 0 1 0', 'refused 16 0 1 0 0'), ('0 030102 0 0 1 1 0', 'refused 15 0 1 0 0'), ('0 030102 0 15 1 1 0', 'refused 14 0 1 0 1'),
-            ('0 030102 4 15 4 1 0', 'refused 14 0 5 4 1'), ('0 030102 5 15 4 1 0', 'refused 17 0 5 4 1'), ('0 030102 9 15 4 2 0', 'refused 16 0 1 5 1'),
-            ('0 02 9 5 1 1 0', 'refused 16 0 1 0 1'), ('0 02 9 5 2 1 0', 'refused 16 0 11 2 1'), ('0 02 9 5 3 1 0', 'refused 15 0 11 2 1'),
-            ('0 02 3 10 3 1 0', 'refused 13 1 0 3 1'), ('0 02 2 10 3 1 0', 'refused 14 0 11 2 1')):
+            ('0 030102 0 0 0 1 0', 'refused 16 0 1 0 0'), ('0 030102 0 0 1 1 0', 'refused 15 0 1 0 0'), ('0 030102 0 5 1 1 0', 'refused 14 0 1 0 1'),
+            ('0 030102 4 5 4 1 0', 'refused 14 0 5 4 1'), ('0 030102 5 5 4 1 0', 'refused 17 0 5 4 1'), ('0 030102 9 5 4 2 0', 'refused 16 0 1 5 1'),
+            ('0 030102 9 5 6 2 0', 'refused 14 0 6 9 1'), ('0 030102 10 5 6 2 0', 'refused 15 0 6 9 1'), ('0 030102 10 10 6 2 0', 'refused 13 2 0 10 1'),
+            ('0 02 9 0 1 1 0', 'refused 16 0 1 0 1'), ('0 02 9 0 2 1 0', 'refused 16 0 11 2 1'), ('0 02 9 0 3 1 0', 'refused 13 1 0 3 1'),
+            ('0 02 3 0 3 1 0', 'refused 13 1 0 3 1'), ('0 02 2 0 3 1 0', 'refused 14 0 11 2 1')):
         yield 'run %s %s' % (file, words), answer
 
 
 def limits():
     """What the checker computes in a few seconds."""
     made = (block_counts, in_three_blocks, heights, variables, alternatives, constants, stops, pending, table_lengths)
-    for some in (*made, orders, orders_at_once, orders_of_blocks, orders_of_tables, survey_limits):
+    for some in (*made, orders, orders_at_once, orders_of_blocks, orders_of_tables, cell_limits, survey_limits):
         yield from some()

@@ -108,8 +108,9 @@ def tables(w, a, words):
     cells, stack, frames = (int(x) for x in w[5:8])
     call = '%s %s %s %s %s' % words
     cut = lambda n: min(65535, n)
+    usable_cells = min(65471, cells // 5)
     frames_after = 'tableAfter (%s) 0 (3 * usable %s .frames)' % (has_begun(a, words)[0], words[4])
-    for term, usable, length in (('cellsAfter ' + call, 5 * cut(cells // 5), cells), ('stackAfter ' + call, cut(stack), stack),
+    for term, usable, length in (('cellsAfter ' + call, 5 * usable_cells, cells), ('stackAfter ' + call, cut(stack), stack),
                                  (frames_after, 3 * cut(frames), 3 * frames)):
         if 0 < length <= LONGEST_SLICE:
             yield '%s (filled 0 %d)' % (term, length), 'List ℕ', wiped(a[-1] == '1', usable, length)

@@ -1,67 +1,29 @@
--- Laws of the arguments' cells: as many references as types are still to be read, and each byte makes one cell.
+-- Laws of the arguments' cells: as many references as types are still to be read, and each byte makes a constant or one cell.
 use Prim.Native.Nat.{ℕ, zero, suc, _+_, _-_, _≤_, _<_}
 use mathlib.Core.Path.{_≡_, refl, sym, ap, ap₂, _∙_, subst}
 use mathlib.Core.List.{List, [], _∷_, _++_}
 use mathlib.Core.Option.{some}
-use mathlib.Core.Bool.{_&&_, and-eq-true-iff}
 use mathlib.Core.Logic.{⊎-elim}
 use native.Mathlib.Omega.{arith}
 use native.Mathlib.Nat.{add-zero, zero-add, eq-or-lt-of-le}
 use native.Mathlib.Numerals.{add-one}
-use lib.ListN.{length, getD, set, take, drop, length-append, length-drop, drop-of-length-le}
+use lib.ListN.{length, getD, set, take, drop, length-append, drop-of-length-le}
 use lib.Seq.{take-append-seam, drop-append-seam, drop-cons, getD-set-same}
-use lib.Dec.{leb, eqb}
-use borrow.Author.Tests.{leb-true}
-use Rattle.rules.specs.Base.{refusal, passed, require, orRefuse}
-use Rattle.rules.specs.Heap.{Heap, cell, allocatedFor}
-use Rattle.rules.specs.Prefix.{arity, readByte, readBytes, arityOf}
+use Rattle.rules.specs.Base.{passed}
+use Rattle.rules.specs.Heap.{Heap, cell, allocatedFor, allocated, numberOf}
+use Rattle.rules.specs.Prefix.{arity, readBytes}
 use Rattle.rules.specs.Program.{Constructor, Program, constructor}
+use Rattle.rules.specs.Run.{cellsLoaded, cellsLoadedBy, oneUnlessConstant}
 use Rattle.rules.proofs.ListLaws.{at-less}
-use Rattle.rules.proofs.TriedLaws.{bind-found, found-some, required}
+use Rattle.rules.proofs.PrefixLaws.{read-cons, arity-is}
+use Rattle.rules.proofs.HeapRun.{references-length}
+use Rattle.rules.proofs.HeapLaws.{allocated-cell, allocated-constant}
 use Rattle.store.specs.Cells.{refs, constructorIn, heapIn, CellPut}
 use Rattle.store.proofs.RefLaws.{length-refs, refs-same, refs-append, put-one}
 use Rattle.store.proofs.CellLaws.{heap-length, heap-put, constructor-kept, cell-put-kept, cells-kept-refl, cells-kept-trans}
 use Rattle.arguments.specs.Loading.{Loading, MadeFrom, MadeFor}
 
 ---- The bytes
-
-arity-is : (s : Program) (c : ℕ) {k : Constructor} → constructor s c ≡ some k → arity s c ≡ length (k .arguments)
-unfolding arityOf
-arity-is s c e = ap arityOf e
-
--- a byte that is right: its constructor, and the types that are read next
-read-cons : (s : Program) (o c : ℕ) (bytes pending : List ℕ) → readBytes s o (c ∷ bytes) pending ≡ passed
-    → (t : ℕ) × (ps : List ℕ) × (k : Constructor) × (pending ≡ t ∷ ps) × (constructor s c ≡ some k) × (length (k .arguments ++ ps) ≤ 256)
-    × (readBytes s (suc o) bytes (k .arguments ++ ps) ≡ passed)
-unfolding readBytes readByte
-read-cons s o c bytes [] e = let z : _≡_ {A = ℕ} 0 1 = cc in absurd (omega arith)
-read-cons s o c bytes (t ∷ ps) e =
-    let a = bind-found (readByte s o c (t ∷ ps)) (λ p. readBytes s (suc o) bytes p) e in
-    let b = bind-found (orRefuse (constructor s c) (refusal 12 o 0)) _ (a .1) in
-    let x = bind-found (require (eqb (b .0 .result) t && leb (length (b .0 .arguments ++ ps)) 256) (refusal 12 o 0)) _ (b .2) in
-    let y = required _ _ (x .1) in
-    let same : b .0 .arguments ++ ps ≡ a .0 = cc in (
-      t,
-      ps,
-      b .0,
-      refl,
-      found-some _ _ (b .1),
-      leb-true _ 256 (and-eq-true-iff (eqb (b .0 .result) t)
-          (leb (length (b .0 .arguments ++ ps)) 256) .0 y .1),
-      rw same (a .2),
-    )
-
--- as many references as types
-references-length : (s : Program) (o : ℕ) (bytes pending : List ℕ) → readBytes s o bytes pending ≡ passed
-    → length (allocatedFor s bytes .1) ≡ length pending
-unfolding allocatedFor readBytes
-references-length s o [] [] e = refl
-references-length s o [] (t ∷ ps) e = let z : _≡_ {A = ℕ} 0 1 = cc in absurd (omega arith)
-references-length s o (c ∷ bytes) pending e =
-    let (t, ps, k, p, q, h, rest) = read-cons s o c bytes pending e in
-    let ih = references-length s (suc o) bytes (k .arguments ++ ps) rest in
-    let n : arity s c ≡ length (k .arguments) = arity-is s c q in
-    rw p (ap suc (length-drop (arity s c) (allocatedFor s bytes .1) ∙ omega (arith, ih, n, length-append (k .arguments) ps)))
 
 -- what is left of the check from byte i on
 suffix : (s : Program) (i o : ℕ) (bytes pending : List ℕ) → readBytes s o bytes pending ≡ passed → length pending ≤ 256 → i ≤ length bytes
@@ -73,6 +35,31 @@ suffix s (suc i) o (c ∷ bytes) pending e h l =
     let (x, y, z) = suffix s i (suc o) bytes (k .arguments ++ ps) rest few (omega arith) in
     let d : o + suc i ≡ suc o + i = omega arith in
     (x, rw d y, z)
+
+-- fewer bytes take no more cells
+loaded-less : (s : Program) (i : ℕ) (bytes : List ℕ) → cellsLoaded s (drop i bytes) ≤ cellsLoaded s bytes
+unfolding cellsLoadedBy
+loaded-less s zero bytes = omega arith
+loaded-less s (suc i) [] = omega arith
+loaded-less s (suc i) (c ∷ bytes) = omega (arith, loaded-less s i bytes)
+
+-- and a byte one at most
+pub loaded-few : (s : Program) (bytes : List ℕ) → cellsLoaded s bytes ≤ length bytes
+unfolding cellsLoadedBy
+loaded-few s [] = omega arith
+loaded-few s (c ∷ bytes) = one (loaded-few s bytes) (arity s c)
+  where
+    one : cellsLoaded s bytes ≤ length bytes → (k : ℕ) → oneUnlessConstant k + cellsLoaded s bytes ≤ suc (length bytes)
+    one ih zero = omega (arith, ih)
+    one ih (suc k) = omega (arith, ih)
+
+one-cell : (n : ℕ) → 0 < n → oneUnlessConstant n ≡ 1
+one-cell zero h = absurd (omega arith)
+one-cell (suc n) h = refl
+
+pos-of : (n : ℕ) → (n ≡ 0 → ⊥) → 0 < n
+pos-of zero h = absurd (h refl)
+pos-of (suc n) h = omega arith
 
 ---- One byte
 
@@ -96,6 +83,11 @@ module _ (s : Program) (index bytes : List ℕ) (a : Loading s index bytes) (i :
       let q′ : readBytes s i (c ∷ drop (i + 1) bytes) p ≡ passed = rw (zero-add, next) at q in
       let (t, ps, k, f, g, few′, rest) = read-cons s i c (drop (i + 1) bytes) p q′ in
       (t, ps, k, omega (arith, ap length f), g, rest)
+
+  -- the cells that the bytes from here on take
+  counted-here : cellsLoaded s (drop i bytes) ≡ oneUnlessConstant n + cellsLoaded s (drop (i + 1) bytes)
+  unfolding cellsLoadedBy
+  counted-here = ap (cellsLoaded s) next
 
   argument-known : c < length (s .constructors)
   argument-known = at-less (s .constructors) c (here .4)
@@ -133,69 +125,104 @@ module _ (s : Program) (index bytes : List ℕ) (a : Loading s index bytes) (i :
         ap (drop n) parts ∙ ap (λ (z : ℕ). drop z (refs numbers at n ++ behind)) (sym (length-refs numbers at n))
         ∙ drop-append-seam (refs numbers at n) behind
 
-    module _ (long : length numbers ≡ 256) where
+    module _ (long : length numbers ≡ 256) (number : ℕ) where
       abbrev numbers′ : List ℕ
-      numbers′ = set numbers (at + n - 1) used
+      numbers′ = set numbers (at + n - 1) number
 
-      values-more : refs numbers′ (at + n - 1) (256 - (at + n - 1)) ≡ used ∷ behind
+      values-more : refs numbers′ (at + n - 1) (256 - (at + n - 1)) ≡ number ∷ behind
       unfolding refs
       values-more =
           let f : 256 - (at + n - 1) ≡ suc (256 - (at + n)) = omega (arith, argument-room) in
           let g : suc (at + n - 1) ≡ at + n = omega (arith, argument-room) in
-          let p = put-one numbers (at + n - 1) used (omega (arith, argument-room)) in
+          let p = put-one numbers (at + n - 1) number (omega (arith, argument-room)) in
           ap (refs numbers′ (at + n - 1)) f
-          ∙ ap₂ _∷_ (getD-set-same numbers (at + n - 1) used 0 (omega (arith, argument-room)))
+          ∙ ap₂ _∷_ (getD-set-same numbers (at + n - 1) number 0 (omega (arith, argument-room)))
           (ap (λ (z : ℕ). refs numbers′ z (256 - (at + n))) g
           ∙ refs-same numbers′ numbers (at + n) (at + n) (256 - (at + n)) (λ j h. p .high (at + n + j) (omega (arith, argument-room))))
 
-      module _ (cells″ : List ℕ) (p : CellPut used c (refs numbers at n) cells′ cells″) (fits : used < length bytes) where
-        heap-more : heapIn (arity s) cells″ (suc used) ≡ later .0 ++ (cell c (take n (later .1)) ∷ [])
-        heap-more =
-            heap-put (arity s) used c (refs numbers at n) cells′ cells″ p (length-refs numbers at n)
-            (λ k h. a .indexed (constructorIn cells′ k) (x .known k h) .2)
-            ∙ ap₂ (λ (heap : Heap) (l : List ℕ). heap ++ (cell c l ∷ [])) (x .heap) (sym taken)
+      -- what is allocated for the byte and those behind it
+      allocated-next : {heap : Heap} → allocated (later .0) c (refs numbers at n) ≡ (heap, number)
+          → (heap ≡ allocatedFor s (drop i bytes) .0)
+          × (refs numbers′ (at + n - 1) (256 - (at + n - 1)) ≡ allocatedFor s (drop i bytes) .1)
+      unfolding allocatedFor
+      allocated-next e =
+          let f : allocated (later .0) c (take n (later .1)) ≡ allocated (later .0) c (refs numbers at n) =
+          ap (allocated (later .0) c) taken in
+          let g = f ∙ e in
+          (sym (ap (λ (x : Heap × ℕ). x .0) g) ∙ rw next, values-more ∙ ap₂ _∷_ (sym (ap (λ (x : Heap × ℕ). x .1) g)) (sym left) ∙ rw next)
 
-        known-more : (k : ℕ) → k < suc used → constructorIn cells″ k < length (s .constructors)
-        known-more k h =
-            let b : k ≤ used = omega arith in
-            ⊎-elim
-            (λ e. let q : constructorIn cells″ k ≡ c = rw e (p .constructor) in omega (arith, q, argument-known))
-            (λ l. omega (arith, constructor-kept used c (refs numbers at n) cells′ cells″ p k l, x .known k l))
-            (eq-or-lt-of-le b)
+    -- a constant makes no cell
+    constant-more : length numbers ≡ 256 → n ≡ 0 → MadeFrom s bytes i used cells cells′ (set numbers (at + n - 1) c) (at + n - 1)
+    constant-more long none =
+        let e = allocated-next long c (allocated-constant (later .0) c (refs numbers at n) (length-refs numbers at n ∙ none)) in record {
+          taken = omega (arith, x .taken, counted-here, ap oneUnlessConstant none);
+          heap = x .heap ∙ e .0;
+          values = e .1;
+          low = omega (arith, argument-room);
+          kept = x .kept;
+          known = x .known;
+        }
 
-        argument-more : MadeFrom s bytes i (suc used) cells cells″ numbers′ (at + n - 1)
-        unfolding allocatedFor
-        argument-more =
-            let m : used ≡ length (later .0) = sym (heap-length (arity s) cells′ used) ∙ ap length (x .heap) in record {
-              heap = heap-more ∙ rw next;
-              values = values-more ∙ ap₂ _∷_ m (sym left) ∙ rw next;
-              low = omega (arith, argument-room);
-              kept =
-                  cells-kept-trans (length bytes) cells cells′ cells″ (x .kept)
-                  (cell-put-kept used c (refs numbers at n) cells′ cells″ p (length bytes) fits);
-              known = known-more;
-            }
+    -- any other constructor makes one
+    module _ (long : length numbers ≡ 256) (any : 0 < n) (cells″ : List ℕ)
+        (p : CellPut used c (refs numbers at n) cells′ cells″) where
+      taken-more : suc used ≡ cellsLoaded s (drop i bytes)
+      taken-more = omega (arith, x .taken, counted-here, one-cell n any)
+
+      heap-more : heapIn (arity s) cells″ (suc used) ≡ later .0 ++ (cell c (refs numbers at n) ∷ [])
+      heap-more =
+          heap-put (arity s) used c (refs numbers at n) cells′ cells″ p (length-refs numbers at n)
+          (λ k h. a .indexed (constructorIn cells′ k) (x .known k h) .2)
+          ∙ ap (λ (heap : Heap). heap ++ (cell c (refs numbers at n) ∷ [])) (x .heap)
+
+      known-more : (k : ℕ) → k < suc used → constructorIn cells″ k < length (s .constructors)
+      known-more k h =
+          let b : k ≤ used = omega arith in
+          ⊎-elim
+          (λ e. let q : constructorIn cells″ k ≡ c = rw e (p .constructor) in omega (arith, q, argument-known))
+          (λ l. omega (arith, constructor-kept used c (refs numbers at n) cells′ cells″ p k l, x .known k l))
+          (eq-or-lt-of-le b)
+
+      -- there was room for it
+      cell-room : used < cellsLoaded s bytes
+      cell-room = omega (arith, taken-more, loaded-less s i bytes)
+
+      cell-more : MadeFrom s bytes i (suc used) cells cells″ (set numbers (at + n - 1) (numberOf used)) (at + n - 1)
+      cell-more =
+          let m : used ≡ length (later .0) = sym (heap-length (arity s) cells′ used) ∙ ap length (x .heap) in
+          let made = allocated-cell (later .0) c (refs numbers at n) (omega (arith, length-refs numbers at n)) in
+          let e = allocated-next long (numberOf used)
+          (made ∙ ap (λ (k : ℕ). (later .0 ++ (cell c (refs numbers at n) ∷ []), numberOf k)) (sym m)) in
+          record {
+            taken = taken-more;
+            heap = heap-more ∙ e .0;
+            values = e .1;
+            low = omega (arith, argument-room);
+            kept =
+                cells-kept-trans (cellsLoaded s bytes) cells cells′ cells″ (x .kept)
+                (cell-put-kept used c (refs numbers at n) cells′ cells″ p (cellsLoaded s bytes) cell-room);
+            known = known-more;
+          }
 
 ---- In the code's words
 
 pub made-none : (s : Program) (bytes cells numbers : List ℕ) → MadeFrom s bytes (length bytes) 0 cells cells numbers 256
-unfolding refs allocatedFor heapIn
+unfolding refs allocatedFor heapIn cellsLoadedBy
 made-none s bytes cells numbers =
     let none = drop-of-length-le bytes {i = length bytes} (omega arith) in record {
+      taken = rw none;
       heap = rw none;
       values = rw none;
       low = omega arith;
-      kept = cells-kept-refl (length bytes) cells;
+      kept = cells-kept-refl (cellsLoaded s bytes) cells;
       known = λ k h. absurd (omega arith);
     }
 
-pub made-all : (s : Program) (bytes : List ℕ) (i used : ℕ) (cells cells′ numbers : List ℕ) (at : ℕ) → i ≡ 0 → used + i ≡ length bytes
-    → MadeFrom s bytes i used cells cells′ numbers at → MadeFor s bytes cells cells′ numbers at
-made-all s bytes i used cells cells′ numbers at e q x =
-    let u : used ≡ length bytes = omega arith in
+pub made-all : (s : Program) (bytes : List ℕ) (i used : ℕ) (cells cells′ numbers : List ℕ) (at : ℕ) → i ≡ 0
+    → MadeFrom s bytes i used cells cells′ numbers at → MadeFor s bytes cells cells′ numbers at used
+made-all s bytes i used cells cells′ numbers at e x =
     let y = subst (λ (j : ℕ). MadeFrom s bytes j used cells cells′ numbers at) e x in
-    let z = subst (λ (j : ℕ). MadeFrom s bytes 0 j cells cells′ numbers at) u y in
-    record { heap = z .heap; values = z .values; low = z .low; kept = z .kept; known = z .known }
+    record { taken = y .taken; heap = y .heap; values = y .values; low = y .low; kept = y .kept; known = y .known }
 
 module _ (s : Program) (index bytes : List ℕ) (a : Loading s index bytes) (i : ℕ) (pos : 0 < i) (inside : i ≤ length bytes)
     (c′ : ℕ) (ec : c′ ≡ getD bytes (i - 1) 0) where
@@ -212,6 +239,18 @@ module _ (s : Program) (index bytes : List ℕ) (a : Loading s index bytes) (i :
     pub byte-few : n′ ≤ 4
     byte-few = arity-read .1
 
+    -- the cells that the bytes from here on take
+    counted-byte : cellsLoaded s (drop (i - 1) bytes) ≡ oneUnlessConstant n′ + cellsLoaded s (drop i bytes)
+    counted-byte =
+        let e : i - 1 + 1 ≡ i = omega arith in
+        rw (arity-read .0) (rw e at (counted-here s index bytes a (i - 1) (omega arith)))
+
+    pub counted-constant : n′ ≡ 0 → cellsLoaded s (drop (i - 1) bytes) ≡ cellsLoaded s (drop i bytes)
+    counted-constant none = omega (arith, counted-byte, ap oneUnlessConstant none)
+
+    pub counted-cell : (n′ ≡ 0 → ⊥) → cellsLoaded s (drop (i - 1) bytes) ≡ 1 + cellsLoaded s (drop i bytes)
+    counted-cell any = omega (arith, counted-byte, one-cell n′ (pos-of n′ any))
+
     module _ (used : ℕ) (cells cells′ numbers : List ℕ) (at : ℕ) (x : MadeFrom s bytes i used cells cells′ numbers at) where
       before : MadeFrom s bytes (i - 1 + 1) used cells cells′ numbers at
       before = let e : i ≡ i - 1 + 1 = omega arith in subst (λ (k : ℕ). MadeFrom s bytes k used cells cells′ numbers at) e x
@@ -219,10 +258,21 @@ module _ (s : Program) (index bytes : List ℕ) (a : Loading s index bytes) (i :
       pub byte-room : (at + n′ ≤ 256) × (0 < at + n′)
       byte-room = rw (arity-read .0) (argument-room s index bytes a (i - 1) (omega arith) used cells cells′ numbers at before)
 
-      pub byte-more : length numbers ≡ 256 → (cells″ : List ℕ) → CellPut used c′ (refs numbers at n′) cells′ cells″ → used < length bytes
-          → MadeFrom s bytes (i - 1) (used + 1) cells cells″ (set numbers (at + n′ - 1) used) (at + n′ - 1)
-      byte-more long cells″ p fits =
+      -- a cell for it is among those that the bytes take
+      pub byte-fits : (n′ ≡ 0 → ⊥) → used < cellsLoaded s bytes
+      byte-fits any = omega (arith, counted-cell any, x .taken, loaded-less s (i - 1) bytes)
+
+      pub byte-constant : length numbers ≡ 256 → n′ ≡ 0
+          → MadeFrom s bytes (i - 1) used cells cells′ (set numbers (at + n′ - 1) c′) (at + n′ - 1)
+      byte-constant long none =
+          rw (arity-read .0, ec)
+          (constant-more s index bytes a (i - 1) (omega arith) used cells cells′ numbers at before long (sym (arity-read .0) ∙ none))
+
+      pub byte-cell : length numbers ≡ 256 → (n′ ≡ 0 → ⊥) → (cells″ : List ℕ) → CellPut used c′ (refs numbers at n′) cells′ cells″
+          → MadeFrom s bytes (i - 1) (used + 1) cells cells″ (set numbers (at + n′ - 1) (numberOf used)) (at + n′ - 1)
+      byte-cell long any cells″ p =
           let p₁ = subst (λ (y : ℕ). CellPut used y (refs numbers at n′) cells′ cells″) ec p in
           let p₂ = subst (λ (y : ℕ). CellPut used (getD bytes (i - 1) 0) (refs numbers at y) cells′ cells″) (arity-read .0) p₁ in
           rw (arity-read .0, add-one)
-          (argument-more s index bytes a (i - 1) (omega arith) used cells cells′ numbers at before long cells″ p₂ fits)
+          (cell-more s index bytes a (i - 1) (omega arith) used cells cells′ numbers at before long
+          (omega (arith, arity-read .0, pos-of n′ any)) cells″ p₂)

@@ -7,7 +7,8 @@ use Rattle.rules.specs.Base.{passed}
 use Rattle.rules.specs.Heap.{allocatedFor}
 use Rattle.rules.specs.Prefix.{arity, readBytes}
 use Rattle.rules.specs.Program.{Program}
-use Rattle.store.specs.Cells.{refs, constructorIn, heapIn, CellsKept}
+use Rattle.rules.specs.Run.{cellsLoaded}
+use Rattle.store.specs.Cells.{refs, constructorIn, CellRoom, heapIn, CellsKept}
 
 -- the bytes passed the check for these parameters, and the index has the arities of the program's constructors
 pub record Loading (s : Program) (index bytes : List ℕ) : Type 0 where
@@ -16,18 +17,26 @@ pub record Loading (s : Program) (index bytes : List ℕ) : Type 0 where
   pub few : length pending ≤ 256
   pub indexed : (c : ℕ) → c < length (s .constructors) → (c < 64) × (getD index c 0 ≡ arity s c) × (arity s c ≤ 4)
 
+-- and there is room for the cells that they take
+pub record Roomy (s : Program) (index bytes cells : List ℕ) : Type 0 where
+  pub loading : Loading s index bytes
+  pub room : CellRoom cells (cellsLoaded s bytes)
+  pub few : cellsLoaded s bytes ≤ 65471
+
 -- the first cells are those of the bytes from i on, and the references from a place on are those to their values
 pub record MadeFrom (s : Program) (bytes : List ℕ) (i used : ℕ) (cells cells′ numbers : List ℕ) (at : ℕ) : Type 0 where
+  pub taken : used ≡ cellsLoaded s (drop i bytes)
   pub heap : heapIn (arity s) cells′ used ≡ allocatedFor s (drop i bytes) .0
   pub values : refs numbers at (256 - at) ≡ allocatedFor s (drop i bytes) .1
   pub low : at ≤ 256
-  pub kept : CellsKept (length bytes) cells cells′
+  pub kept : CellsKept (cellsLoaded s bytes) cells cells′
   pub known : (k : ℕ) → k < used → constructorIn cells′ k < length (s .constructors)
 
 -- the cells of all bytes
-pub record MadeFor (s : Program) (bytes cells cells′ numbers : List ℕ) (at : ℕ) : Type 0 where
-  pub heap : heapIn (arity s) cells′ (length bytes) ≡ allocatedFor s bytes .0
+pub record MadeFor (s : Program) (bytes cells cells′ numbers : List ℕ) (at used : ℕ) : Type 0 where
+  pub taken : used ≡ cellsLoaded s bytes
+  pub heap : heapIn (arity s) cells′ used ≡ allocatedFor s bytes .0
   pub values : refs numbers at (256 - at) ≡ allocatedFor s bytes .1
   pub low : at ≤ 256
-  pub kept : CellsKept (length bytes) cells cells′
-  pub known : (k : ℕ) → k < length bytes → constructorIn cells′ k < length (s .constructors)
+  pub kept : CellsKept (cellsLoaded s bytes) cells cells′
+  pub known : (k : ℕ) → k < used → constructorIn cells′ k < length (s .constructors)

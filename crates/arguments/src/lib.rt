@@ -4,4 +4,5 @@ mod loading; // loading.rt: the cells, from the last byte to the first
 
 pub use checking::check_arguments;
 pub use loading::Pending;
+pub use loading::enough;
 pub use loading::make_arguments;

@@ -2,24 +2,52 @@
 use fetch::constructor_arity;
 use readers::wide;
 use store::put_cell;
-ghost use Prim.Native.Nat.{_≤_};
-ghost use lib.ListN.{length};
+ghost use mathlib.Core.Path.{_≡_};
+ghost use lib.Dec.{leb};
 ghost use Rattle.rules.specs.Program.{Program};
-ghost use Rattle.store.specs.Cells.{CellRoom};
-ghost use Rattle.arguments.specs.Loading.{Loading, MadeFor};
+ghost use Rattle.rules.specs.Run.{cellsLoaded};
+ghost use Rattle.arguments.specs.Loading.{Loading, Roomy, MadeFor};
 
-// The references that no cell has taken yet, from a place on.
+// The references that no cell has taken yet, from a place on, and how many cells are made.
 pub struct Pending {
     pub at: usize,
+    pub used: usize,
     pub numbers: [u16; 256],
 }
 
-// For the crates above: the arguments' cells, from the last byte to the first.
-pub fn make_arguments(index: &[u32; 128], bytes: &[u8], cells: &mut [u16]) -> Pending
+// How many cells the arguments take. Constants take none.
+fn cells_needed(index: &[u32; 128], bytes: &[u8]) -> usize
     requires { ⌜ ((s : Program) × Loading s (now index) (now bytes)) ⌝ }
-    requires { ⌜ (length (now bytes) ≤ 65535) × CellRoom (now cells) (length (now bytes)) ⌝ }
+    ensures { λ r. ⌜ ((s : Program) → Loading s (now (index .entry)) (now (bytes .entry)) → r ≡ cellsLoaded s (now (bytes .entry))) ⌝ }
+{
+    let mut needed: usize = 0;
+    let mut i = bytes.len();
+    while 0 < i {
+        i -= 1;
+        if constructor_arity(index, wide(bytes[i])) != 0 {
+            needed += 1;
+        }
+    }
+    needed
+}
+
+// For the crates above: whether so many cells are enough for the arguments. A byte takes one at most, so they are seldom counted.
+pub fn enough(index: &[u32; 128], bytes: &[u8], cells: usize) -> bool
+    requires { ⌜ ((s : Program) × Loading s (now index) (now bytes)) ⌝ }
     ensures { λ r. ⌜ ((s : Program) → Loading s (now (index .entry)) (now (bytes .entry))
-        → MadeFor s (now (bytes .entry)) (now (cells .entry)) (now (cells .exit)) (r .numbers) (r .at)) ⌝ }
+        → r ≡ leb (cellsLoaded s (now (bytes .entry))) cells) ⌝ }
+{
+    if bytes.len() <= cells {
+        return true;
+    }
+    cells_needed(index, bytes) <= cells
+}
+
+// For the crates above: the arguments' cells, from the last byte to the first, constants skipped.
+pub fn make_arguments(index: &[u32; 128], bytes: &[u8], cells: &mut [u16]) -> Pending
+    requires { ⌜ ((s : Program) × Roomy s (now index) (now bytes) (now cells)) ⌝ }
+    ensures { λ r. ⌜ ((s : Program) → Roomy s (now (index .entry)) (now (bytes .entry)) (now (cells .entry))
+        → MadeFor s (now (bytes .entry)) (now (cells .entry)) (now (cells .exit)) (r .numbers) (r .at) (r .used)) ⌝ }
 {
     let mut numbers = [0u16; 256];
     let mut at: usize = 256;
@@ -29,10 +57,13 @@ pub fn make_arguments(index: &[u32; 128], bytes: &[u8], cells: &mut [u16]) -> Pe
         i -= 1;
         let c = wide(bytes[i]);
         let n = constructor_arity(index, c);
-        put_cell(cells, used, c as u16, &numbers, at, n);
+        let mut number = c as u16;
+        if n != 0 {
+            number = put_cell(cells, used, number, &numbers, at, n);
+            used += 1;
+        }
         at = at + n - 1;
-        numbers[at] = used as u16;
-        used += 1;
+        numbers[at] = number;
     }
-    Pending { at, numbers }
+    Pending { at, used, numbers }
 }

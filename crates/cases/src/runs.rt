@@ -43,7 +43,7 @@ fn at_most(length: u32, most: usize) -> usize
     if n < most { n } else { most }
 }
 
-// A run uses 65,535 entries of a table at most, so longer tables than these are lent in part.
+// A run uses 65,471 cells and 65,535 entries of another table at most, so longer tables than these are lent in part.
 fn read_sizes(line: &[u8], words: Words) -> Sized {
     let Number::Of(cells) = words::number_at(line, words, 5) else {
         return Sized::Bad;
@@ -145,7 +145,7 @@ fn run_in(
 }
 
 // The tables stand on the native stack, most of which the writing of a deep result takes. So there are three sizes of them: for
-// most calls; 65,535 cells with a short stack, which leaves room for a result of 65,535 levels; and the longest.
+// most calls; more cells than are used with a short stack, which leaves room for a result of 65,471 levels; and the longest.
 
 fn run_small(line: &[u8], call: Call, sizes: Sizes) {
     let mut cells = [lent::NUMBER; 4096];

@@ -9,7 +9,7 @@ use Rattle.rules.specs.declared.answers.Reason.{Reason}
 use Rattle.rules.specs.declared.answers.Reason.the-variants as reason
 use Rattle.rules.specs.declared.answers.Ending.the-variants as ends
 use Rattle.rules.specs.Base.{refusal}
-use Rattle.rules.specs.Heap.{Heap, NamesEarlier, Refers, valueOf}
+use Rattle.rules.specs.Heap.{Heap, NamesEarlier, Refers, valueOf, numberOf}
 use Rattle.rules.specs.Lists.{All, _l∷_}
 use Rattle.rules.specs.Prefix.{arity, written}
 use Rattle.rules.specs.Program.{Program}
@@ -28,7 +28,7 @@ use Rattle.fetch.proofs.IndexLaws.{constructor-read}
 use Rattle.fetch.proofs.PlaceLaws.{stands-number}
 use Rattle.result.specs.Result.{bytesOf, Readable}
 use Rattle.result.proofs.ValueLaws.{bytes-in, readable}
-use Rattle.steps.specs.Steps.{topCell}
+use Rattle.steps.specs.Steps.{topReference}
 use Rattle.steps.specs.declared.state.Registers.{Registers}
 use Rattle.delivery.specs.Delivers.{Ended, Delivers}
 
@@ -69,8 +69,8 @@ module _ {file index : List ℕ} {m : Limits} {budget : ℕ} {says : Outcome} {c
   abbrev s : Program
   s = programIn file
 
-  abbrev cell : ℕ
-  cell = topCell stack r
+  abbrev reference : ℕ
+  reference = topReference stack r
 
   -- the arities of the cells' constructors are in the index
   known : (k : ℕ) → k < r .used → constructorIn cells k < length (programIn file .constructors)
@@ -91,30 +91,30 @@ module _ {file index : List ℕ} {m : Limits} {budget : ℕ} {says : Outcome} {c
         let h = e .ends .result w .0 in
         (omega (arith, h), omega (arith, h, e .ends .standing .laid .places, e .lent .stack-room))
 
-    result-cell : topCell stack r < r .used
-    result-cell =
+    result-refers : topReference stack r < numberOf (r .used)
+    result-refers =
         let n : r .base + (r .top - r .base - 1) ≡ r .top - 1 = omega (arith, e .ends .result w .0) in
         let heap : Heap = heapIn (arity s) cells (r .used) in
         let l = refs-all {P = Refers heap} stack (r .base) (r .top - r .base) (all-first (e .ends .standing .valid .refer))
         (r .top - r .base - 1) (omega (arith, e .ends .result w .0)) in
         omega (arith, rw n at l, heap-length (arity s) cells (r .used))
 
-    pub result-readable : Readable index cells (topCell stack r)
+    pub result-readable : Readable index cells (topReference stack r)
     result-readable =
-        readable index cells (r .used) cell result-cell (omega (arith, e .ends .standing .laid .taken, e .lent .few-cells))
+        readable index cells (r .used) reference result-refers (omega (arith, e .ends .standing .laid .taken, e .lent .few-cells))
         (room-less cells (m .cells) (r .used) (e .lent .cell-room) (e .ends .standing .laid .taken))
         (λ k h. constructor-read file index (e .indexed) (constructorIn cells k) (known k h) .0)
         (λ k h. let a = constructor-read file index (e .indexed) (constructorIn cells k) (known k h) in omega (arith, a .1, a .2)) earlier
 
-    result-bytes : bytesOf index cells (topCell stack r)
-        ≡ written (valueOf (heapIn (arity (programIn file)) cells (r .used)) (topCell stack r))
+    result-bytes : bytesOf index cells (topReference stack r)
+        ≡ written (valueOf (heapIn (arity (programIn file)) cells (r .used)) (topReference stack r))
     result-bytes =
-        bytes-in index cells (r .used) cell result-cell earlier ∙ ap (λ (h : Heap). written (valueOf h cell)) (sym heap-is)
+        bytes-in index cells (r .used) reference result-refers earlier ∙ ap (λ (h : Heap). written (valueOf h reference)) (sym heap-is)
 
-    pub result-short : length (bytesOf index cells (topCell stack r)) < 4294967296
+    pub result-short : length (bytesOf index cells (topReference stack r)) < 4294967296
     result-short = rw result-bytes (e .ends .result w .1)
 
-    pub says-result : answer (finished (bytesOf index cells (topCell stack r))) (budget - r .left) ≡ says
+    pub says-result : answer (finished (bytesOf index cells (topReference stack r))) (budget - r .left) ≡ says
     says-result = rw result-bytes (sym (e .ends .result w .2))
 
   -- a stop is counted as a step

@@ -2,7 +2,7 @@
 use mathlib.Core.Path.{_≡_, refl, sym, ap, ap₂, _∙_, subst}
 use mathlib.Core.List.{List, [], _∷_}
 use mathlib.Core.Bool.{true}
-use Prim.Native.Nat.{ℕ, _*_, _-_}
+use Prim.Native.Nat.{ℕ, _*_, _-_, _≤_}
 use native.Mathlib.Omega.{arith}
 use lib.ListN.{length}
 use Rattle.rules.specs.declared.answers.Answer.{Answer}
@@ -15,9 +15,10 @@ use Rattle.rules.specs.Memory.{tableAfter}
 use Rattle.rules.specs.Prefix.{values}
 use Rattle.rules.specs.Program.{Function, Program}
 use Rattle.rules.specs.Records.{programIn}
-use Rattle.rules.specs.Run.{Tables, usable, Outcome, loaded}
+use Rattle.rules.specs.Run.{Tables, withArguments, usable, cellsLoaded, Outcome, loaded}
 use Rattle.rules.proofs.CheckLaws.{accepted-checked}
-use Rattle.rules.proofs.HeapRun.{allocated-all}
+use Rattle.rules.proofs.HeapRun.{Allocated, allocated-all}
+use Rattle.rules.proofs.WordsSmall.{few-constructors}
 use Rattle.rules.proofs.RunLaws.{load-begins}
 use Rattle.store.specs.Frames.{noFrame, framesIn}
 use Rattle.store.specs.Limits.{tables, LimitsOf, Wiped}
@@ -36,7 +37,7 @@ use Rattle.start.specs.Begins.{Beginning, first, Loaded}
 use Rattle.start.specs.Runs.{lentOf, Runs}
 use Rattle.start.proofs.BeginLaws.{values-length, all-fit}
 use Rattle.start.proofs.CallLaws.{known-entry}
-use Rattle.start.proofs.LoadLaws.{cells-are, stack-is, frames-are, limits}
+use Rattle.start.proofs.LoadLaws.{bytes-right, cells-are, stack-is, frames-are, limits}
 use Rattle.delivery.specs.Delivers.{Ended, Delivers}
 use Rattle.interpreter.proofs.SoundLaws.{has-begun, start-sound}
 
@@ -52,9 +53,9 @@ module _ {file index : List ℕ} {m : Limits} {entry n : ℕ} {arguments : List 
   begins : loaded s (usable (lentOf cells stack frames out)) entry arguments ≡ found (start entry (values s arguments))
   begins =
       let k = values-length s f arguments (b .callable .right) in
-      load-begins s (usable (lentOf cells stack frames out)) entry arguments f (b .callable .known) (b .callable .right)
+      load-begins withArguments s (usable (lentOf cells stack frames out)) entry arguments f (b .callable .known) (b .callable .right)
       (all-fit (usable (lentOf cells stack frames out))
-      entry (values s arguments) (length arguments) (omega (arith, b .frame, frames-are b))
+      entry (values s arguments) (cellsLoaded s arguments) (omega (arith, b .frame, frames-are b))
       (omega (arith, b .slots, b .inputs, k, stack-is b)) (omega (arith, b .room, cells-are b)))
 
   -- what the run answers
@@ -64,7 +65,7 @@ module _ {file index : List ℕ} {m : Limits} {entry n : ℕ} {arguments : List 
   module _ (small : Bytes file) {cells₁ stack₁ : List ℕ} (l : Loaded (programIn file) arguments n cells stack cells₁ stack₁) where
     -- the start, as the registers and tables have it
     abbrev r : Registers
-    r = first entry (codeAt index entry) n (length arguments) budget
+    r = first entry (codeAt index entry) n (cellsLoaded (programIn file) arguments) budget
 
     state-is : stateIn (programIn file) cells₁ stack₁ r 1 [] ≡ heapStart (programIn file) entry arguments
     unfolding waitingOn
@@ -89,19 +90,25 @@ module _ {file index : List ℕ} {m : Limits} {entry n : ℕ} {arguments : List 
           deep = b .frame;
         }
 
+    few : length (programIn file .constructors) ≤ 64
+    few = few-constructors file s (accepted-checked (b .callable .accepted))
+
+    all : Allocated (programIn file) arguments
+    all = allocated-all s few 0 arguments (f .parameters) (bytes-right s f arguments (b .callable .right))
+
     values-are : stateOf (heapStart s entry arguments) ≡ start entry (values s arguments)
-    values-are = ap (start entry) (allocated-all s arguments .stand)
+    values-are = ap (start entry) (all .stand)
 
     standing : Standing file m cells₁ stack₁ r 1 []
-    standing =
-        let all = allocated-all s arguments in record {
-          laid = laid;
-          valid = subst (λ (h : HeapState). Valid h) (sym state-is) (record { earlier = all .earlier; refer = all .there l∷ l[] });
-          sound =
-              subst (λ (st : State). SoundFrom s st) (sym (ap (λ (h : HeapState). stateOf h) state-is ∙ values-are))
-              (start-sound file s small (accepted-checked (b .callable .accepted)) entry f (b .callable .known) arguments
-              (b .callable .right));
-        }
+    standing = record {
+      few = few;
+      laid = laid;
+      valid = subst (λ (h : HeapState). Valid h) (sym state-is) (record { earlier = all .earlier; refer = all .there l∷ l[] });
+      sound =
+          subst (λ (st : State). SoundFrom s st) (sym (ap (λ (h : HeapState). stateOf h) state-is ∙ values-are))
+          (start-sound file s small (accepted-checked (b .callable .accepted)) entry f (b .callable .known) arguments
+          (b .callable .right));
+    }
 
     limits₁ : LimitsOf m cells₁ stack₁ frames
     limits₁ =

@@ -3,7 +3,7 @@ use mathlib.Core.Path.{_≡_, sym, ap, _∙_}
 use mathlib.Core.List.{List, [], _∷_}
 use mathlib.Core.Option.{none, some}
 use mathlib.Core.Bool.{true}
-use Prim.Native.Nat.{ℕ, _*_}
+use Prim.Native.Nat.{ℕ, _*_, _≤_}
 use lib.ListN.{length}
 use Rattle.rules.specs.declared.answers.Answer.{Answer}
 use Rattle.rules.specs.Base.{found, passed}
@@ -14,7 +14,7 @@ use Rattle.rules.specs.Prefix.{argumentsRight, values}
 use Rattle.rules.specs.Check.{checked}
 use Rattle.rules.specs.Heap.{heapStart}
 use Rattle.rules.specs.HeapRun.{continuedOn, startedOn}
-use Rattle.rules.specs.Run.{Lent, Tables, usable, Outcome, endOf, finishedWith, loaded, started, delivered}
+use Rattle.rules.specs.Run.{Lent, Tables, withArguments, usable, Outcome, endOf, finishedWith, loaded, started, delivered}
 use Rattle.rules.specs.Memory.{tableAfter}
 use Rattle.rules.specs.Promise.{Lives, given-up, has-result, goes-on}
 use Rattle.rules.proofs.ListLaws.{none-some}
@@ -24,6 +24,7 @@ use Rattle.rules.proofs.RunLaws.{run-checked}
 use Rattle.rules.proofs.MemoryLaws.{begun-loaded}
 use Rattle.rules.proofs.Promise.{tally-promise}
 use Rattle.rules.proofs.ResultLaws.{result-fact}
+use Rattle.rules.proofs.WordsSmall.{few-constructors}
 use Rattle.store.specs.Frames.{noFrame}
 use Rattle.store.specs.declared.frames.Frame.{Frame}
 use Rattle.steps.specs.Stands.{SoundFrom}
@@ -31,10 +32,11 @@ use Rattle.start.specs.Runs.{lentOf, Runs}
 use Rattle.delivery.specs.Delivers.{Delivers}
 
 -- from a start that fits the tables, the run over cells
-started-on : (s : Program) (m : Tables) (budget entry : ℕ) (bytes : List ℕ) {st : State} → loaded s m entry bytes ≡ found st
+started-on : (s : Program) → length (s .constructors) ≤ 64 → (m : Tables) (budget entry : ℕ) (bytes : List ℕ) {st : State}
+    → loaded s m entry bytes ≡ found st
     → started s m budget entry bytes ≡ continuedOn s m budget 0 (heapStart s entry bytes)
 unfolding startedOn
-started-on s m budget entry bytes e = sym (heap-fact s m budget entry bytes) ∙ rw (e, startedOn)
+started-on s few m budget entry bytes e = sym (heap-fact s few m budget entry bytes) ∙ rw (e, startedOn)
 
 module _ (file : List ℕ) (entry : ℕ) (arguments : List ℕ) (budget : ℕ) (cells stack : List ℕ) (frames : List Frame) (out : List ℕ)
     {s : Program} (e : checked file ≡ found s) where
@@ -48,8 +50,8 @@ module _ (file : List ℕ) (entry : ℕ) (arguments : List ℕ) (budget : ℕ) (
       → frames′ ≡ tableAfter true noFrame (usable lent .frames) frames
       → Runs file entry arguments budget cells stack frames out cells′ stack′ frames′ out′ r
   has-begun w c d ec es ef =
-      let whole = run-checked file entry arguments budget lent e
-      ∙ ap (delivered (length out)) (started-on s (usable lent) budget entry arguments w ∙ c) in
+      let whole = run-checked withArguments file entry arguments budget lent e
+      ∙ ap (delivered (length out)) (started-on s (few-constructors file s e) (usable lent) budget entry arguments w ∙ c) in
       let b = begun-loaded file entry arguments lent e w in
       record {
         says = d .says ∙ rw whole;

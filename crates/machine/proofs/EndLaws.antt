@@ -34,7 +34,7 @@ use Rattle.fetch.specs.Indexed.{Indexed}
 use Rattle.fetch.specs.Places.{offsetAt}
 use Rattle.fetch.specs.Words.{WordThere}
 use Rattle.steps.specs.Stands.{waitingOn, topOn, stateIn, Standing, answersOn}
-use Rattle.steps.specs.Steps.{topCell, Rests}
+use Rattle.steps.specs.Steps.{topReference, Rests}
 use Rattle.machine.specs.Turns.{Settles, settles-other, settles-above, settles-spent, settles-result}
 use Rattle.machine.specs.Runs.{EndsAs}
 use Rattle.steps.specs.declared.state.Registers.{Registers}
@@ -92,24 +92,26 @@ module _ (file : List ℕ) (m : Limits) (cells stack : List ℕ) (r : Registers)
       go zero e = none-some (sym stuck ∙ lives file m cells stack r i [] ok (none-there e) .1)
       go (suc n) e = omega (arith, e)
 
-  value-there : top (refs stack (r .base) (r .top - r .base)) ≡ some (topCell stack r)
+  value-there : top (refs stack (r .base) (r .top - r .base)) ≡ some (topReference stack r)
   value-there =
       let e : r .base + h - 1 ≡ r .top - 1 = omega (arith, ok .laid .bottom) in
       refs-top stack (r .base) h (omega (arith, result-deep)) ∙ ap (λ (j : ℕ). some (getD stack j 0)) e
 
-  pub result-ends : endOn (programIn file) (here .heap) (here .frames) ≡ some (finished (written (valueOf (here .heap) (topCell stack r))))
+  pub result-ends : endOn (programIn file) (here .heap) (here .frames)
+      ≡ some (finished (written (valueOf (here .heap) (topReference stack r))))
   unfolding endOn waitingOn
   result-ends = rw (result-is ∙ value-there)
 
-  result-value : resultOf (programIn file) (stateOf here) ≡ some (valueOf (here .heap) (topCell stack r))
+  result-value : resultOf (programIn file) (stateOf here) ≡ some (valueOf (here .heap) (topReference stack r))
   unfolding resultOf waitingOn current
   result-value =
       let q : current s (frameOf (here .heap) fr) ≡ some Return = cur in
       returned-there s (frameOf (here .heap) fr) q ∙ top-mapped s (here .heap) (fr .stack) ∙ ap (optionMap (valueOf (here .heap)))
       value-there
 
-  pub result-short : length (written (valueOf (here .heap) (topCell stack r))) < 4294967296
-  result-short = ok .sound .bounded 0 (stateOf here) (valueOf (here .heap) (topCell stack r)) (after-none s (stateOf here)) result-value
+  pub result-short : length (written (valueOf (here .heap) (topReference stack r))) < 4294967296
+  result-short =
+      ok .sound .bounded 0 (stateOf here) (valueOf (here .heap) (topReference stack r)) (after-none s (stateOf here)) result-value
 
 ---- Stop
 
@@ -190,16 +192,17 @@ module _ (file index : List ℕ) (indexed : Indexed file index) (m : Limits) (bu
     (same : said ≡ answersOn (programIn file) m budget cells stack r i ws) where
   -- the result on top of the stack
   with-result : length ws ≡ 0 → current (programIn file) (place (r .function) i) ≡ some Return
-      → (r .base < r .top) × (length (written (valueOf (heapIn (arity (programIn file)) cells (r .used)) (topCell stack r))) < 4294967296)
-      × (said ≡ answer (finished (written (valueOf (heapIn (arity (programIn file)) cells (r .used)) (topCell stack r))))
+      → (r .base < r .top)
+      × (length (written (valueOf (heapIn (arity (programIn file)) cells (r .used)) (topReference stack r))) < 4294967296)
+      × (said ≡ answer (finished (written (valueOf (heapIn (arity (programIn file)) cells (r .used)) (topReference stack r))))
       (budget - r .left))
   with-result none-wait cur = go ws (no-frames ws none-wait) ok same
     where
       go : (vs : List Frame) → vs ≡ [] → Standing file m cells stack r i vs
           → said ≡ answersOn (programIn file) m budget cells stack r i vs
-          → (r .base < r .top) × (length (written (valueOf (heapIn (arity (programIn file)) cells (r .used)) (topCell stack r))) <
+          → (r .base < r .top) × (length (written (valueOf (heapIn (arity (programIn file)) cells (r .used)) (topReference stack r))) <
           4294967296)
-          × (said ≡ answer (finished (written (valueOf (heapIn (arity (programIn file)) cells (r .used)) (topCell stack r))))
+          × (said ≡ answer (finished (written (valueOf (heapIn (arity (programIn file)) cells (r .used)) (topReference stack r))))
           (budget - r .left))
       go [] e on q = (
         result-deep file m cells stack r i on cur,

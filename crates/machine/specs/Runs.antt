@@ -15,7 +15,7 @@ use Rattle.store.specs.declared.frames.Frame.{Frame}
 use Rattle.store.specs.declared.limits.Limits.{Limits}
 use Rattle.fetch.specs.Indexed.{Indexed}
 use Rattle.steps.specs.Stands.{Standing, Spared, answersOn}
-use Rattle.steps.specs.Steps.{topCell}
+use Rattle.steps.specs.Steps.{topReference}
 use Rattle.steps.specs.declared.state.Registers.{Registers}
 
 -- how a run that answers so has ended: with the result on top of the stack, by the program's own stop, or with one of 14 to 17
@@ -23,8 +23,9 @@ pub record EndsAs (file : List ℕ) (m : Limits) (budget : ℕ) (said : Outcome)
     (ws : List Frame) : Type 0 where
   pub standing : Standing file m cells stack t i ws
   pub result : t .why ≡ 3
-      → (t .base < t .top) × (length (written (valueOf (heapIn (arity (programIn file)) cells (t .used)) (topCell stack t))) < 4294967296)
-      × (said ≡ answer (finished (written (valueOf (heapIn (arity (programIn file)) cells (t .used)) (topCell stack t))))
+      → (t .base < t .top)
+      × (length (written (valueOf (heapIn (arity (programIn file)) cells (t .used)) (topReference stack t))) < 4294967296)
+      × (said ≡ answer (finished (written (valueOf (heapIn (arity (programIn file)) cells (t .used)) (topReference stack t))))
       (budget - t .left))
   pub stops : t .why ≡ 4 → (0 < t .left) × (said ≡ answer aborted (suc (budget - t .left)))
   pub short : (t .why ≡ 3 → ⊥) → (t .why ≡ 4 → ⊥)

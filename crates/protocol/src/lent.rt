@@ -39,23 +39,23 @@ pub fn kept(bytes: &[u8]) -> bool {
     true
 }
 
-// How many numbers of a table of so many are usable, with `each` numbers to an entry: whole entries, at most 65,535 of them.
-fn usable(length: usize, each: usize) -> usize
+// How many numbers of a table of so many are usable, with `each` numbers to an entry: whole entries, and no more than `most` of them.
+fn usable(length: usize, each: usize, most: usize) -> usize
     requires { ⌜ 0 < each ⌝ }
     ensures { λ r. ⌜ r ≤ length ⌝ }
 {
     let entries = length / each;
-    if 65535 < entries {
-        65535 * each
+    if most < entries {
+        most * each
     } else {
         entries * each
     }
 }
 
-fn left_in(table: &[u16], each: usize) -> Left
+fn left_in(table: &[u16], each: usize, most: usize) -> Left
     requires { ⌜ 0 < each ⌝ }
 {
-    let n = usable(table.len(), each);
+    let n = usable(table.len(), each, most);
     if !all_numbers(&table[n..], NUMBER) {
         return Left::Wrong;
     }
@@ -90,5 +90,5 @@ fn both(a: Left, b: Left) -> Left {
 
 // What a run left in its cells of five numbers and in its stack. Its frames are its own, and end with it.
 pub fn found(cells: &[u16], stack: &[u16]) -> Left {
-    both(left_in(cells, 5), left_in(stack, 1))
+    both(left_in(cells, 5, 65471), left_in(stack, 1, 65535))
 }

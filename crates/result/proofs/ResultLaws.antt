@@ -1,54 +1,65 @@
 -- Laws of the walk over a result's cells: what is counted or written, and the bytes still to come, are together the value's bytes.
 use Prim.Native.Nat.{ℕ, suc, _+_, _≤_, _<_}
 use mathlib.Core.Path.{_≡_, refl, sym, ap, ap₂, _∙_}
+use mathlib.Core.Bool.{Bool, true, false}
 use mathlib.Core.List.{List, _∷_, _++_, append-nil}
 use native.Mathlib.Omega.{arith}
 use native.Mathlib.Numerals.{add-one}
-use lib.ListN.{length, getD, set, length-append}
+use lib.ListN.{length, set, length-append}
 use lib.Seq.{sets, sets-eq}
 use Rattle.rules.proofs.ListLaws.{sets-append}
+use Rattle.rules.specs.Heap.{isConstant}
 use Rattle.rules.specs.Memory.{frontWritten}
-use Rattle.store.specs.Cells.{constructorIn, argumentIn}
+use Rattle.store.specs.Cells.{argumentIn, cellOf, labelIn, arityIn}
+use Rattle.store.proofs.CellLaws.{constant-arity}
 use Rattle.fetch.specs.Indexed.{constructorArity}
 use Rattle.result.specs.Result.{bytesOf, Readable, VisitAt}
-use Rattle.result.proofs.ValueLaws.{rest, rest-none, rest-more, before, bytes-all, readable-at}
+use Rattle.result.proofs.ValueLaws.{rest, rest-none, rest-more, before, bytes-all, constant-bytes, arity-few, readable-at}
 
 module _ (index cells : List ℕ) (k : ℕ) (ok : Readable index cells k) where
   pub length-all : length (bytesOf index cells k) ≡ suc (length (rest index cells k 0))
   length-all = ap length (bytes-all index cells k ok)
 
   pub sets-all : (o : List ℕ) (at : ℕ)
-      → sets o at (bytesOf index cells k) ≡ sets (set o at (constructorIn cells k)) (at + 1) (rest index cells k 0)
+      → sets o at (bytesOf index cells k) ≡ sets (set o at (labelIn cells k)) (at + 1) (rest index cells k 0)
   sets-all o at =
       ap (sets o at) (bytes-all index cells k ok)
-      ∙ ap (λ (i : ℕ). sets (set o at (constructorIn cells k)) i (rest index cells k 0)) (sym (add-one at))
+      ∙ ap (λ (i : ℕ). sets (set o at (labelIn cells k)) i (rest index cells k 0)) (sym (add-one at))
 
----- A walk over the cells: all arguments but the last by a call, the last by going round
+---- A walk over the cells: constants at once, of the other arguments all but the last by a call and the last by going round
+
+-- a reference with an argument is no constant
+pub visit-cell : {index cells : List ℕ} {here n j : ℕ} → VisitAt index cells here n j → j < n → isConstant here ≡ false
+visit-cell {index} {cells} {here} at more = one (isConstant here) refl
+  where
+    one : (t : Bool) → isConstant here ≡ t → isConstant here ≡ false
+    one true e = absurd (omega (arith, at .arity, constant-arity cells here (constructorArity index) e, more))
+    one false e = e
 
 module _ {index cells : List ℕ} {here n j : ℕ} (at : VisitAt index cells here n j) (more : j < n) {r : ℕ}
-    (named : r ≡ argumentIn cells here j) where
-  visit-less : j < constructorArity index (constructorIn cells here)
+    (named : r ≡ argumentIn cells (cellOf here) j) where
+  visit-less : j < arityIn (constructorArity index) cells here
   visit-less = omega (arith, at .arity, more)
 
-  -- the argument visited comes before the cell
+  -- the argument visited has a lower number
   pub visit-earlier : r < here
   visit-earlier = omega (arith, named, before index cells here (at .readable) j visit-less)
 
   pub visit-readable : Readable index cells r
   visit-readable = readable-at index cells here (at .readable) r visit-earlier
 
-  pub visit-few : {n′ : ℕ} → n′ ≡ getD index (constructorIn cells r) 0 → n′ ≤ 4
-  visit-few e = omega (arith, e, visit-readable .few r (omega arith))
+  pub visit-few : {n′ : ℕ} → n′ ≡ arityIn (constructorArity index) cells r → n′ ≤ 4
+  visit-few e = omega (arith, e, arity-few index cells r visit-readable)
 
   -- the bytes still to come are the argument's and those behind it
   visit-bytes : rest index cells here j ≡ bytesOf index cells r ++ rest index cells here (j + 1)
   visit-bytes = rest-more index cells here j r visit-less named
 
   -- at the last one they are the argument's constructor and what comes behind that
-  visit-last-bytes : n ≤ j + 1 → rest index cells here j ≡ constructorIn cells r ∷ rest index cells r 0
+  visit-last-bytes : n ≤ j + 1 → rest index cells here j ≡ labelIn cells r ∷ rest index cells r 0
   visit-last-bytes last =
       let none = rest-none index cells here (j + 1) (omega (arith, at .arity, last)) in
-      visit-bytes ∙ ap₂ _++_ (bytes-all index cells r visit-readable) none ∙ append-nil (constructorIn cells r ∷ rest index cells r 0)
+      visit-bytes ∙ ap₂ _++_ (bytes-all index cells r visit-readable) none ∙ append-nil (labelIn cells r ∷ rest index cells r 0)
 
 -- from a number on the bytes are counted; those still to come are counted from here on
 pub record Counting (index cells : List ℕ) (k from here n total j : ℕ) : Type 0 where
@@ -56,8 +67,8 @@ pub record Counting (index cells : List ℕ) (k from here n total j : ℕ) : Typ
   pub low : here ≤ k
   pub sum : total + length (rest index cells here j) ≡ from + length (bytesOf index cells k)
 
-pub counting-start : (index cells : List ℕ) (k from : ℕ) → Readable index cells k → {n : ℕ} → n ≡ getD index (constructorIn cells k) 0
-    → Counting index cells k from k n (from + 1) 0
+pub counting-start : (index cells : List ℕ) (k from : ℕ) → Readable index cells k → {n : ℕ}
+    → n ≡ arityIn (constructorArity index) cells k → Counting index cells k from k n (from + 1) 0
 counting-start index cells k from ok e = record {
   at = record { readable = ok; arity = e; inside = omega arith };
   low = omega arith;
@@ -66,13 +77,13 @@ counting-start index cells k from ok e = record {
 
 module _ {index cells : List ℕ} {k from here n total j : ℕ} (so-far : Counting index cells k from here n total j) where
   pub counting-few : n ≤ 4
-  counting-few = omega (arith, so-far .at .arity, so-far .at .readable .few here (omega arith))
+  counting-few = omega (arith, so-far .at .arity, arity-few index cells here (so-far .at .readable))
 
   pub counting-end : n ≤ j → total ≡ from + length (bytesOf index cells k)
   counting-end h =
       omega (arith, so-far .sum, ap length (rest-none index cells here j (omega (arith, so-far .at .arity, h))))
 
-  module _ (more : j < n) {r : ℕ} (named : r ≡ argumentIn cells here j) where
+  module _ (more : j < n) {r : ℕ} (named : r ≡ argumentIn cells (cellOf here) j) where
     -- the argument's bytes, one at least, are among those still to come
     pub counting-whole : (total + length (bytesOf index cells r) + length (rest index cells here (j + 1))
         ≡ from + length (bytesOf index cells k)) × (1 ≤ length (bytesOf index cells r))
@@ -88,7 +99,14 @@ module _ {index cells : List ℕ} {k from here n total j : ℕ} (so-far : Counti
       sum = counting-whole .0;
     }
 
-    pub counting-last : n ≤ j + 1 → {n′ : ℕ} → n′ ≡ getD index (constructorIn cells r) 0 → Counting index cells k from r n′ (total + 1) 0
+    -- a constant is one byte
+    pub counting-constant : isConstant r ≡ true → Counting index cells k from here n (total + 1) (j + 1)
+    counting-constant e =
+        let one = ap length (constant-bytes index cells r (visit-readable (so-far .at) more named) e) in
+        rw one at counting-next
+
+    pub counting-last : n ≤ j + 1 → {n′ : ℕ} → n′ ≡ arityIn (constructorArity index) cells r
+        → Counting index cells k from r n′ (total + 1) 0
     counting-last last e = record {
       at = record { readable = visit-readable (so-far .at) more named; arity = e; inside = omega arith };
       low = omega (arith, so-far .low, visit-earlier (so-far .at) more named);
@@ -102,7 +120,7 @@ pub record Writing (index cells : List ℕ) (k at : ℕ) (first out : List ℕ) 
   pub bytes : sets out next (rest index cells here j) ≡ sets first (at + 1) (rest index cells k 0)
 
 pub writing-start : (index cells : List ℕ) (k at : ℕ) (first : List ℕ) → Readable index cells k → {n : ℕ}
-    → n ≡ getD index (constructorIn cells k) 0 → Writing index cells k at first first k n (at + 1) 0
+    → n ≡ arityIn (constructorArity index) cells k → Writing index cells k at first first k n (at + 1) 0
 writing-start index cells k at first ok e = record { count = counting-start index cells k at ok e; long = refl; bytes = refl }
 
 module _ {index cells : List ℕ} {k at : ℕ} {first out : List ℕ} {here n next j : ℕ}
@@ -112,7 +130,7 @@ module _ {index cells : List ℕ} {k at : ℕ} {first out : List ℕ} {here n ne
       let none = rest-none index cells here j (omega (arith, so-far .count .at .arity, h)) in
       (counting-end (so-far .count) h, sym (ap (sets out next) none) ∙ so-far .bytes)
 
-  module _ (more : j < n) {r : ℕ} (named : r ≡ argumentIn cells here j) {out′ : List ℕ} (long : length out′ ≡ length out) where
+  module _ (more : j < n) {r : ℕ} (named : r ≡ argumentIn cells (cellOf here) j) {out′ : List ℕ} (long : length out′ ≡ length out) where
     pub writing-next : {next′ : ℕ} → next′ ≡ next + length (bytesOf index cells r) → out′ ≡ sets out next (bytesOf index cells r)
         → Writing index cells k at first out′ here n next′ (j + 1)
     writing-next e put = rw e (record {
@@ -124,7 +142,13 @@ module _ {index cells : List ℕ} {k at : ℕ} {first out : List ℕ} {here n ne
           ∙ sym (ap (sets out next) (visit-bytes (so-far .count .at) more named)) ∙ so-far .bytes;
     })
 
-    pub writing-last : n ≤ j + 1 → {n′ : ℕ} → n′ ≡ getD index (constructorIn cells r) 0 → out′ ≡ set out next (constructorIn cells r)
+    -- a constant is its own byte
+    pub writing-constant : isConstant r ≡ true → out′ ≡ set out next r → Writing index cells k at first out′ here n (next + 1) (j + 1)
+    writing-constant e put =
+        let bytes = constant-bytes index cells r (visit-readable (so-far .count .at) more named) e in
+        writing-next (ap (λ (l : List ℕ). next + length l) (sym bytes)) (put ∙ ap (sets out next) (sym bytes))
+
+    pub writing-last : n ≤ j + 1 → {n′ : ℕ} → n′ ≡ arityIn (constructorArity index) cells r → out′ ≡ set out next (labelIn cells r)
         → Writing index cells k at first out′ r n′ (next + 1) 0
     writing-last last e put = record {
       count = counting-last (so-far .count) more named last e;

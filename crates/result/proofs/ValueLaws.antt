@@ -1,66 +1,73 @@
--- Laws of the values of cells: a cell's value is the same in a longer heap, and its bytes are its constructor and its arguments' bytes.
+-- Laws of the values of references: a value is the same in a longer heap, and its bytes are its constructor and its arguments' bytes.
 use Prim.Native.Nat.{ℕ, zero, suc, _+_, _≤_, _<_}
 use mathlib.Core.Path.{_≡_, refl, sym, ap, ap₂, _∙_, subst}
 use mathlib.Core.List.{List, [], _∷_, _++_, map}
+use mathlib.Core.Bool.{Bool, true, false}
 use mathlib.Core.Logic.{⊎-elim}
 use native.Mathlib.Omega.{arith}
 use native.Mathlib.Nat.{eq-or-lt-of-le}
 use native.Mathlib.Numerals.{add-one}
 use lib.ListN.{length, getD, drop, List·getD-append, drop-of-length-le}
 use lib.Seq.{getD-append-add, drop-cons}
-use Rattle.rules.specs.Heap.{Cell, NamesEarlier, cellAt, constructorOf, valueIn, valueOf}
+use borrow.Author.Tests.{ltb-true}
+use Rattle.rules.specs.Heap.{Cell, Heap, cell, isConstant, numberOf, NamesEarlier, cellAt, constructorOf, valueIn, valueOf}
 use Rattle.rules.specs.Lists.{All, l[], _l∷_}
 use Rattle.rules.specs.Machine.{Value}
 use Rattle.rules.specs.Prefix.{written, writtenAll}
 use Rattle.rules.specs.Tree.{fromList, made}
 use Rattle.rules.proofs.HeapLaws.{value-fuel}
 use Rattle.rules.proofs.MapLaws.{map-alike}
-use Rattle.store.specs.Cells.{constructorIn, argumentIn, argumentsIn, CellRoom, heapIn}
-use Rattle.store.proofs.CellLaws.{arguments-length, arguments-all, arguments-next, heap-length, heap-cell, room-less}
+use Rattle.store.specs.Cells.{constructorIn, argumentIn, argumentsIn, CellRoom, heapIn, cellOf, cellsTo, labelIn, arityIn}
+use Rattle.store.proofs.CellLaws.{arguments-length, arguments-all, arguments-next, heap-length, room-less}
+use Rattle.store.proofs.CellLaws.{cells-inside, reference-below, cell-last-of, up-to, cells-to-less}
+use Rattle.store.proofs.CellLaws.{constant-label, cell-label, constant-arity, cell-arity, heap-reference}
 use Rattle.fetch.specs.Indexed.{constructorArity}
 use Rattle.result.specs.Result.{bytesOf, Readable}
 
 ---- A longer heap
 
 module _ (n : ℕ → ℕ) (cells : List ℕ) (a b : ℕ) (longer : a ≤ b) where
-  cell-same : (i : ℕ) → i < a → cellAt (heapIn n cells b) i ≡ cellAt (heapIn n cells a) i
-  cell-same i h = heap-cell n cells b i (omega arith) ∙ sym (heap-cell n cells a i h)
+  cell-same : (k : ℕ) → k < numberOf a → cellAt (heapIn n cells b) k ≡ cellAt (heapIn n cells a) k
+  cell-same k h = heap-reference cells k n b (omega arith) ∙ sym (heap-reference cells k n a h)
 
   earlier-less : NamesEarlier (heapIn n cells b) → NamesEarlier (heapIn n cells a)
   earlier-less earlier k h =
       subst (λ (x : Cell). All (λ j. j < k) (x .arguments)) (cell-same k (omega (arith, heap-length n cells a)))
       (earlier k (omega (arith, heap-length n cells a, heap-length n cells b)))
 
-  value-same : NamesEarlier (heapIn n cells a) → (f k : ℕ) → k < a → valueIn (heapIn n cells b) f k ≡ valueIn (heapIn n cells a) f k
+  value-same : NamesEarlier (heapIn n cells a) → (f k : ℕ) → k < numberOf a
+      → valueIn (heapIn n cells b) f k ≡ valueIn (heapIn n cells a) f k
   unfolding valueIn
   value-same earlier zero k h = refl
   value-same earlier (suc f) k h =
-      let there : k < length (heapIn n cells a) = omega (arith, heap-length n cells a) in
+      let there : k < numberOf (length (heapIn n cells a)) = omega (arith, heap-length n cells a) in
       ap (λ (x : Cell). made (x .constructor) (map (valueIn (heapIn n cells b) f) (x .arguments))) (cell-same k h)
       ∙ ap (made (constructorOf (heapIn n cells a) k))
       (map-alike (valueIn (heapIn n cells b) f) (valueIn (heapIn n cells a) f) (λ j l. value-same earlier f j (omega arith))
       (earlier k there))
 
--- the bytes of a cell of the heap of the first cells
-pub bytes-in : (index cells : List ℕ) (used k : ℕ) → k < used → NamesEarlier (heapIn (λ c. getD index c 0) cells used)
-    → bytesOf index cells k ≡ written (valueOf (heapIn (λ c. getD index c 0) cells used) k)
+-- the bytes of a reference into the heap of the first cells
+pub bytes-in : (index cells : List ℕ) (used k : ℕ) → k < numberOf used → NamesEarlier (heapIn (constructorArity index) cells used)
+    → bytesOf index cells k ≡ written (valueOf (heapIn (constructorArity index) cells used) k)
 unfolding bytesOf
 bytes-in index cells used k h earlier =
-    let longer : k + 1 ≤ used = omega arith in
-    ap written (sym (value-same (constructorArity index) cells (k + 1) used longer
-    (earlier-less (constructorArity index) cells (k + 1) used longer earlier) (suc k) k (omega arith)))
+    let longer = cells-inside k used h in
+    ap written (sym (value-same (constructorArity index) cells (cellsTo k) used longer
+    (earlier-less (constructorArity index) cells (cellsTo k) used longer earlier) (suc k) k (up-to k)))
 
--- a cell of the first cells
-pub readable : (index cells : List ℕ) (used k : ℕ) → k < used → used ≤ 65535 → CellRoom cells used
+-- a reference into the first cells
+pub readable : (index cells : List ℕ) (used k : ℕ) → k < numberOf used → used ≤ 65471 → CellRoom cells used
     → ((i : ℕ) → i < used → constructorIn cells i < 64) → ((i : ℕ) → i < used → getD index (constructorIn cells i) 0 ≤ 4)
-    → NamesEarlier (heapIn (λ c. getD index c 0) cells used) → Readable index cells k
-readable index cells used k h most room known few earlier = record {
-  room = room-less cells used (k + 1) room (omega arith);
-  small = omega arith;
-  known = λ i l. known i (omega arith);
-  few = λ i l. few i (omega arith);
-  earlier = earlier-less (constructorArity index) cells (k + 1) used (omega arith) earlier;
-}
+    → NamesEarlier (heapIn (constructorArity index) cells used) → Readable index cells k
+readable index cells used k h most room known few earlier =
+    let longer = cells-inside k used h in
+    record {
+      room = room-less cells used (cellsTo k) room longer;
+      small = reference-below k used most h;
+      known = λ i l. known i (omega arith);
+      few = λ i l. few i (omega arith);
+      earlier = earlier-less (constructorArity index) cells (cellsTo k) used longer earlier;
+    }
 
 ---- The arguments
 
@@ -78,7 +85,7 @@ arguments-at cells k (suc n) j h =
     (λ l. List·getD-append xs (argumentIn cells k n ∷ []) 0 j (omega (arith, len)) ∙ arguments-at cells k n j l)
     (eq-or-lt-of-le b)
 
--- the bytes of cells, one after the other
+-- the bytes of references, one after the other
 bytesAll : List ℕ → List ℕ → List ℕ → List ℕ
 bytesAll index cells [] = []
 bytesAll index cells (r ∷ rs) = bytesOf index cells r ++ bytesAll index cells rs
@@ -89,59 +96,90 @@ unfolding written bytesAll
 written-all index cells f e l[] = refl
 written-all index cells f e (_l∷_ {x} p ps) = ap₂ _++_ (e x p) (written-all index cells f e ps)
 
--- the bytes of the arguments of cell k from the j-th on
+-- the bytes of the arguments of a reference from the j-th on
 pub rest : List ℕ → List ℕ → ℕ → ℕ → List ℕ
-rest index cells k j = bytesAll index cells (drop j (argumentsIn cells k (constructorArity index (constructorIn cells k))))
+rest index cells k j = bytesAll index cells (drop j (argumentsIn cells (cellOf k) (arityIn (constructorArity index) cells k)))
 
 module _ (index cells : List ℕ) (k : ℕ) where
-  pub rest-none : (j : ℕ) → constructorArity index (constructorIn cells k) ≤ j → rest index cells k j ≡ []
-  unfolding rest bytesAll
-  rest-none j h =
-      let m : ℕ = constructorArity index (constructorIn cells k) in
-      rw (drop-of-length-le (argumentsIn cells k m) {i = j} (omega (arith, arguments-length cells k m)))
+  abbrev arity : ℕ
+  arity = arityIn (constructorArity index) cells k
 
-  pub rest-more : (j r : ℕ) → j < constructorArity index (constructorIn cells k) → r ≡ argumentIn cells k j
+  abbrev refsOf : List ℕ
+  refsOf = argumentsIn cells (cellOf k) arity
+
+  pub rest-none : (j : ℕ) → arityIn (constructorArity index) cells k ≤ j → rest index cells k j ≡ []
+  unfolding rest bytesAll
+  rest-none j h = rw (drop-of-length-le refsOf {i = j} (omega (arith, arguments-length cells (cellOf k) arity)))
+
+  pub rest-more : (j r : ℕ) → j < arityIn (constructorArity index) cells k → r ≡ argumentIn cells (cellOf k) j
       → rest index cells k j ≡ bytesOf index cells r ++ rest index cells k (j + 1)
   unfolding rest bytesAll
   rest-more j r h q =
-      let m : ℕ = constructorArity index (constructorIn cells k) in
-      let e : drop j (argumentsIn cells k m) ≡ getD (argumentsIn cells k m) j 0 ∷ drop (j + 1) (argumentsIn cells k m) =
-      rw add-one (drop-cons (argumentsIn cells k m) j 0 (omega (arith, arguments-length cells k m))) in
-      rw (e, arguments-at cells k m j h, q)
+      let e : drop j refsOf ≡ getD refsOf j 0 ∷ drop (j + 1) refsOf =
+      rw add-one (drop-cons refsOf j 0 (omega (arith, arguments-length cells (cellOf k) arity))) in
+      rw (e, arguments-at cells (cellOf k) arity j h, q)
 
   module _ (ok : Readable index cells k) where
-    abbrev n : ℕ → ℕ
-    n c = getD index c 0
+    abbrev heap : Heap
+    heap = heapIn (constructorArity index) cells (cellsTo k)
 
-    cell-is : cellAt (heapIn n cells (k + 1)) k .arguments ≡ argumentsIn cells k (constructorArity index (constructorIn cells k))
-    cell-is = ap (λ (x : Cell). x .arguments) (heap-cell n cells (k + 1) k (omega arith))
+    refers : k < numberOf (length heap)
+    refers = omega (arith, up-to k, heap-length (constructorArity index) cells (cellsTo k))
 
-    named-all : All (λ j. j < k) (argumentsIn cells k (constructorArity index (constructorIn cells k)))
-    named-all = subst (λ (l : List ℕ). All (λ j. j < k) l) cell-is (ok .earlier k (omega (arith, heap-length n cells (k + 1))))
+    cell-is : cellAt heap k ≡ cell (labelIn cells k) refsOf
+    cell-is = heap-reference cells k (constructorArity index) (cellsTo k) (up-to k)
 
-    -- an argument comes before the cell
-    pub before : (j : ℕ) → j < constructorArity index (constructorIn cells k) → argumentIn cells k j < k
-    before j h = arguments-all {P = λ i. i < k} cells k _ named-all j h
+    named-all : All (λ j. j < k) refsOf
+    named-all = subst (λ (x : Cell). All (λ j. j < k) (x .arguments)) cell-is (ok .earlier k refers)
+
+    -- an argument's number is below the reference
+    pub before : (j : ℕ) → j < arityIn (constructorArity index) cells k → argumentIn cells (cellOf k) j < k
+    before j h = arguments-all {P = λ i. i < k} cells (cellOf k) _ named-all j h
 
     -- "in prefix order"
-    pub bytes-all : bytesOf index cells k ≡ constructorIn cells k ∷ rest index cells k 0
+    pub bytes-all : bytesOf index cells k ≡ labelIn cells k ∷ rest index cells k 0
     unfolding bytesOf written valueIn rest
     bytes-all =
-        let heap = heapIn n cells (k + 1) in
-        let len = heap-length n cells (k + 1) in
-        ap (λ (x : Cell). x .constructor ∷ writtenAll (fromList (map (valueIn heap k) (x .arguments))))
-        (heap-cell n cells (k + 1) k (omega arith))
-        ∙ ap (λ (l : List ℕ). constructorIn cells k ∷ l)
+        ap (λ (x : Cell). x .constructor ∷ writtenAll (fromList (map (valueIn heap k) (x .arguments)))) cell-is
+        ∙ ap (λ (l : List ℕ). labelIn cells k ∷ l)
         (written-all index cells (valueIn heap k)
-        (λ r l. ap written (value-fuel heap (ok .earlier) k (suc r) r (omega arith) l (omega arith))
-        ∙ sym (bytes-in index cells (k + 1) r (omega arith) (ok .earlier))) named-all)
+        (λ r l. ap written (value-fuel heap (ok .earlier) k (suc r) r (omega (arith, refers)) l (omega arith))
+        ∙ sym (bytes-in index cells (cellsTo k) r (omega (arith, up-to k)) (ok .earlier))) named-all)
 
-    -- a cell before it
+    -- a constant is its own byte
+    pub constant-bytes : isConstant k ≡ true → bytesOf index cells k ≡ k ∷ []
+    constant-bytes e =
+        bytes-all ∙ ap₂ (λ (c : ℕ) (l : List ℕ). c ∷ l) (constant-label cells k e)
+        (rest-none 0 (omega (arith, constant-arity cells k (constructorArity index) e)))
+
+    -- the constructor is below 64: a constant is one, and those of cells are known
+    pub label-known : labelIn cells k < 64
+    label-known = one (isConstant k) refl
+      where
+        one : (t : Bool) → isConstant k ≡ t → labelIn cells k < 64
+        one true e = omega (arith, constant-label cells k e, ltb-true k 64 e)
+        one false e = omega (arith, cell-label cells k e, ok .known (cellOf k) (cell-last-of k e))
+
+    pub arity-few : arityIn (constructorArity index) cells k ≤ 4
+    arity-few = one (isConstant k) refl
+      where
+        one : (t : Bool) → isConstant k ≡ t → arityIn (constructorArity index) cells k ≤ 4
+        one true e = omega (arith, constant-arity cells k (constructorArity index) e)
+        one false e =
+            omega (
+              arith,
+              cell-arity cells k (constructorArity index) e ∙ ap (constructorArity index) (cell-label cells k e),
+              ok .few (cellOf k) (cell-last-of k e),
+            )
+
+    -- a reference below it
     pub readable-at : (r : ℕ) → r < k → Readable index cells r
-    readable-at r h = record {
-      room = room-less cells (k + 1) (r + 1) (ok .room) (omega arith);
-      small = omega (arith, ok .small);
-      known = λ i l. ok .known i (omega arith);
-      few = λ i l. ok .few i (omega arith);
-      earlier = earlier-less n cells (r + 1) (k + 1) (omega arith) (ok .earlier);
-    }
+    readable-at r h =
+        let less : cellsTo r ≤ cellsTo k = cells-to-less r k (omega arith) in
+        record {
+          room = room-less cells (cellsTo k) (cellsTo r) (ok .room) less;
+          small = omega (arith, ok .small);
+          known = λ i l. ok .known i (omega arith);
+          few = λ i l. ok .few i (omega arith);
+          earlier = earlier-less (constructorArity index) cells (cellsTo r) (cellsTo k) less (ok .earlier);
+        }

@@ -1,25 +1,31 @@
-// The result: how many bytes it has, and its bytes in prefix order. A cell names only cells before it, so the recursion's cell number
-// falls. All arguments but the last are taken by a call and the last by going round: lists and numbers, however long, take one call.
+// The result: how many bytes it has, and its bytes in prefix order. A cell names only numbers below its own, so the recursion's number
+// falls. Constants are taken at once, of the other arguments all but the last by a call and the last by going round: lists and numbers,
+// however long, take one call.
 use fetch::constructor_arity;
 use store::argument_at;
 use store::constructor_at;
+use store::is_constant;
 ghost use mathlib.Core.Path.{_≡_};
 ghost use Prim.Native.Nat.{_+_, _≤_, _<_};
-ghost use lib.ListN.{length, getD};
+ghost use lib.ListN.{length};
 ghost use lib.Seq.{sets};
 ghost use Rattle.rules.specs.Memory.{frontWritten};
-ghost use Rattle.store.specs.Cells.{constructorIn};
+ghost use Rattle.fetch.specs.Indexed.{constructorArity};
+ghost use Rattle.store.specs.Cells.{arityIn};
 ghost use Rattle.result.specs.Result.{bytesOf, Readable};
 
-// How many arguments cell k has.
+// How many arguments a reference has.
 fn arity_at(index: &[u32; 128], cells: &[u16], k: usize) -> usize
     requires { ⌜ Readable (now index) (now cells) k ⌝ }
-    ensures { λ r. ⌜ r ≡ getD (now (index .entry)) (constructorIn (now (cells .entry)) k) 0 ⌝ }
+    ensures { λ r. ⌜ r ≡ arityIn (constructorArity (now (index .entry))) (now (cells .entry)) k ⌝ }
 {
+    if is_constant(k) {
+        return 0;
+    }
     constructor_arity(index, constructor_at(cells, k))
 }
 
-// For the crates above: how many bytes the value of cell k has.
+// For the crates above: how many bytes the value of a reference has.
 pub fn count(index: &[u32; 128], cells: &[u16], k: usize) -> usize
     requires { ⌜ Readable (now index) (now cells) k ⌝ }
     requires { ⌜ length (bytesOf (now index) (now cells) k) < 4294967296 ⌝ }
@@ -31,7 +37,10 @@ pub fn count(index: &[u32; 128], cells: &[u16], k: usize) -> usize
     let mut j: usize = 0;
     while j < n {
         let child = argument_at(cells, here, j);
-        if j + 1 < n {
+        if is_constant(child) {
+            total += 1;
+            j += 1;
+        } else if j + 1 < n {
             total += count(index, cells, child);
             j += 1;
         } else {
@@ -44,7 +53,7 @@ pub fn count(index: &[u32; 128], cells: &[u16], k: usize) -> usize
     total
 }
 
-// Writes the value of cell k from a place on, and returns the next place.
+// Writes the value of a reference from a place on, and returns the next place.
 fn write_value(index: &[u32; 128], cells: &[u16], out: &mut [u8], k: usize, at: usize) -> usize
     requires { ⌜ Readable (now index) (now cells) k ⌝ }
     requires { ⌜ at + length (bytesOf (now index) (now cells) k) ≤ length (now out) ⌝ }
@@ -58,7 +67,11 @@ fn write_value(index: &[u32; 128], cells: &[u16], out: &mut [u8], k: usize, at: 
     let mut j: usize = 0;
     while j < n {
         let child = argument_at(cells, here, j);
-        if j + 1 < n {
+        if is_constant(child) {
+            out[next] = child as u8;
+            next += 1;
+            j += 1;
+        } else if j + 1 < n {
             next = write_value(index, cells, out, child, next);
             j += 1;
         } else {
@@ -72,7 +85,7 @@ fn write_value(index: &[u32; 128], cells: &[u16], out: &mut [u8], k: usize, at: 
     next
 }
 
-// For the crates above: writes the value of cell k to the output's front.
+// For the crates above: writes the value of a reference to the output's front.
 pub fn write(index: &[u32; 128], cells: &[u16], k: usize, out: &mut [u8])
     requires { ⌜ Readable (now index) (now cells) k ⌝ }
     requires { ⌜ length (bytesOf (now index) (now cells) k) ≤ length (now out) ⌝ }

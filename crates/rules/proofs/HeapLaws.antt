@@ -3,10 +3,11 @@ use mathlib.Core.Path.{_≡_, refl, sym, ap, ap₂, _∙_}
 use mathlib.Core.List.{List, [], _∷_, _++_, map}
 use mathlib.Core.Option.{Option, some}
 use mathlib.Core.Bool.{Bool, true, false}
-use Prim.Native.Nat.{ℕ, zero, suc, _<_}
+use Prim.Native.Nat.{ℕ, zero, suc, _-_, _≤_, _<_}
 use native.Mathlib.Omega.{arith}
-use lib.ListN.{length, List·getD-append}
+use lib.ListN.{length, getD, List·getD-append}
 use lib.Dec.{eqb}
+use borrow.Author.Tests.{ltb-false, lt-ltb, le-ltb}
 use Rattle.rules.specs.declared.records.Instruction.{Instruction}
 use Rattle.rules.specs.declared.records.Instruction.the-variants.{Load, Build, Call, Branch, Return, Stop}
 use Rattle.rules.specs.Base.{if_then_else_}
@@ -15,16 +16,54 @@ use Rattle.rules.specs.Program.{Program, constructor, function}
 use Rattle.rules.specs.Tree.{made, label, arguments}
 use Rattle.rules.specs.Stacks.{slot, split, push}
 use Rattle.rules.specs.Machine.{Value, Frame, State, frameAt, onward, top, current, answered, execute, step}
-use Rattle.rules.specs.Heap.{Cell, Heap, HeapFrame, HeapState, heapState, cell, cellAt, allocated, constructorOf, argumentsOf, Refers}
-use Rattle.rules.specs.Heap.{valueIn, valueOf, frameOf, stateOf, heapFrameAt, heapOnward, placeOf, answeredWith, executeOn, stepOn}
-use Rattle.rules.specs.Heap.{heapStep, FramesRefer, NamesEarlier, Valid}
-use Rattle.rules.proofs.ListLaws.{all-slot, all-parts}
+use Rattle.rules.specs.Heap.{Cell, Heap, HeapFrame, HeapState, heapState, cell, isConstant, numberOf, cellAt, allocated}
+use Rattle.rules.specs.Heap.{constructorOf, argumentsOf, Refers, valueIn, valueOf, frameOf, stateOf, heapFrameAt, heapOnward, placeOf}
+use Rattle.rules.specs.Heap.{answeredWith, executeOn, stepOn, heapStep, FramesRefer, NamesEarlier, Valid}
+use Rattle.rules.proofs.ListLaws.{at-less, all-slot, all-parts}
 use Rattle.rules.proofs.MapLaws.{optionMap, bothMap, map-append, map-slot, map-split, map-alike, bind-both, bind-mapped}
 use Rattle.rules.proofs.Models.{to-from}
 
-pub cell-last : (heap : Heap) (c : Cell) → cellAt (heap ++ (c ∷ [])) (length heap) ≡ c
-cell-last [] c = refl
-cell-last (x ∷ heap) c = cell-last heap c
+---- What a number stands for
+
+pub constant-at : (heap : Heap) (c : ℕ) → isConstant c ≡ true → cellAt heap c ≡ cell c []
+unfolding cellAt
+constant-at heap c e = rw e
+
+pub cell-at : (heap : Heap) (k : ℕ) → isConstant k ≡ false → cellAt heap k ≡ getD heap (k - 64) (cell 0 [])
+unfolding cellAt
+cell-at heap k e = rw e
+
+-- the cell that comes last
+pub cell-last : (heap : Heap) (c : Cell) → cellAt (heap ++ (c ∷ [])) (numberOf (length heap)) ≡ c
+cell-last heap c =
+    let i : numberOf (length heap) - 64 ≡ length heap = omega arith in
+    cell-at (heap ++ (c ∷ [])) (numberOf (length heap)) (le-ltb (numberOf (length heap)) 64 (omega arith))
+    ∙ ap (λ (j : ℕ). getD (heap ++ (c ∷ [])) j (cell 0 [])) i ∙ last heap
+  where
+    last : (cells : Heap) → getD (cells ++ (c ∷ [])) (length cells) (cell 0 []) ≡ c
+    last [] = refl
+    last (x ∷ cells) = last cells
+
+-- cells made later change nothing
+pub cell-kept : (heap more : Heap) (k : ℕ) → Refers heap k → cellAt (heap ++ more) k ≡ cellAt heap k
+cell-kept heap more k there = one (isConstant k) refl
+  where
+    one : (t : Bool) → isConstant k ≡ t → cellAt (heap ++ more) k ≡ cellAt heap k
+    one true e = constant-at (heap ++ more) k e ∙ sym (constant-at heap k e)
+    one false e =
+        cell-at (heap ++ more) k e ∙ List·getD-append heap more (cell 0 []) (k - 64) (omega (arith, there, ltb-false k 64 e))
+        ∙ sym (cell-at heap k e)
+
+---- What is allocated
+
+pub allocated-constant : (heap : Heap) (c : ℕ) (refs : List ℕ) → length refs ≡ 0 → allocated heap c refs ≡ (heap, c)
+allocated-constant heap c [] e = refl
+allocated-constant heap c (k ∷ refs) e = absurd (omega (arith, e))
+
+pub allocated-cell : (heap : Heap) (c : ℕ) (refs : List ℕ) → 0 < length refs
+    → allocated heap c refs ≡ (heap ++ (cell c refs ∷ []), numberOf (length heap))
+allocated-cell heap c [] h = absurd (omega (arith, h))
+allocated-cell heap c (k ∷ refs) h = refl
 
 ---- The value of a reference
 
@@ -43,8 +82,7 @@ module _ (heap : Heap) (earlier : NamesEarlier heap) where
   unfolding valueIn
   value-kept more zero k there = refl
   value-kept more (suc f) k there =
-      let same : cellAt (heap ++ more) k ≡ cellAt heap k = List·getD-append heap more (cell 0 []) k there in
-      ap (λ (x : Cell). made (x .constructor) (map (valueIn (heap ++ more) f) (x .arguments))) same
+      ap (λ (x : Cell). made (x .constructor) (map (valueIn (heap ++ more) f) (x .arguments))) (cell-kept heap more k there)
       ∙ ap (made (constructorOf heap k))
       (map-alike (valueIn (heap ++ more) f) (valueIn heap f) (λ j l. value-kept more f j (omega arith)) (earlier k there))
 
@@ -59,20 +97,22 @@ module _ (heap : Heap) (earlier : NamesEarlier heap) where
       ∙ map-alike (valueIn heap k) (valueOf heap) (λ j l. value-fuel k (suc j) j (omega arith) l (omega arith)) (earlier k there)
 
   -- what is allocated stands for the constructor over the values of its references
-  module _ (c : ℕ) (refs : List ℕ) where
-    pub allocated-value : All (Refers heap) refs
-        → valueOf (allocated heap c refs .0) (allocated heap c refs .1) ≡ made c (map (valueOf heap) refs)
-    unfolding valueIn
-    allocated-value there =
-        let n = length heap in
-        let new : Heap = cell c refs ∷ [] in
-        ap (λ (x : Cell). made (x .constructor) (map (valueIn (heap ++ new) n) (x .arguments))) (cell-last heap (cell c refs))
-        ∙ ap (made c) (map-alike (valueIn (heap ++ new) n) (valueOf heap)
-        (λ j l. value-kept new n j l ∙ value-fuel n (suc j) j l l (omega arith)) there)
+  pub allocated-value : (c : ℕ) → c < 64 → (refs : List ℕ) → All (Refers heap) refs
+      → valueOf (allocated heap c refs .0) (allocated heap c refs .1) ≡ made c (map (valueOf heap) refs)
+  unfolding valueIn
+  allocated-value c small [] there =
+      ap (λ (x : Cell). made (x .constructor) (map (valueIn heap c) (x .arguments))) (constant-at heap c (lt-ltb c 64 small))
+  allocated-value c small (r ∷ refs) there =
+      let n = numberOf (length heap) in
+      let new : Heap = cell c (r ∷ refs) ∷ [] in
+      ap (λ (x : Cell). made (x .constructor) (map (valueIn (heap ++ new) n) (x .arguments))) (cell-last heap (cell c (r ∷ refs)))
+      ∙ ap (made c) (map-alike (valueIn (heap ++ new) n) (valueOf heap)
+      (λ j l. value-kept new n j l ∙ value-fuel n (suc j) j l l (omega arith)) there)
 
-    -- and what stood before is as it was
-    pub allocated-kept : (k : ℕ) → Refers heap k → valueOf (allocated heap c refs .0) k ≡ valueOf heap k
-    allocated-kept k there = value-kept (cell c refs ∷ []) (suc k) k there
+  -- and what stood before is as it was
+  pub allocated-kept : (c : ℕ) (refs : List ℕ) (k : ℕ) → Refers heap k → valueOf (allocated heap c refs .0) k ≡ valueOf heap k
+  allocated-kept c [] k there = refl
+  allocated-kept c (r ∷ refs) k there = value-kept (cell c (r ∷ refs) ∷ []) (suc k) k there
 
 ---- A step
 
@@ -107,8 +147,8 @@ module _ (s : Program) (heap : Heap) where
       (λ k e. bind-both stateOf (current s (placeOf w)) _ _
       (λ ins e′. rw (answers-alike w k ins) (bind-mapped (frameOf heap) stateOf (answeredWith s w k ins) _ _ (λ back e″. refl)))))
 
-  module _ (earlier : NamesEarlier heap) (fr : HeapFrame) (others : List HeapFrame) (here : All (Refers heap) (fr .stack))
-      (below : FramesRefer heap others) where
+  module _ (few : length (s .constructors) ≤ 64) (earlier : NamesEarlier heap) (fr : HeapFrame) (others : List HeapFrame)
+      (here : All (Refers heap) (fr .stack)) (below : FramesRefer heap others) where
     abbrev under : State
     under = map (frameOf heap) others
 
@@ -131,22 +171,23 @@ module _ (s : Program) (heap : Heap) where
         bind-both stateOf (constructor s c) _ _
         (λ d e. rw (map-split val (length (d .arguments)) (fr .stack))
         (bind-mapped (bothMap val) stateOf (split (length (d .arguments)) (fr .stack)) _ _
-        (λ parts e′. built (parts .0) (parts .1) (all-parts _ e′ here))))
+        (λ parts e′. built (omega (arith, few, at-less (s .constructors) c e)) (parts .0) (parts .1) (all-parts _ e′ here))))
       where
-        built : (rest refs : List ℕ) → All (Refers heap) rest × All (Refers heap) refs
+        built : c < 64 → (rest refs : List ℕ) → All (Refers heap) rest × All (Refers heap) refs
             → goesOn (push (map val rest) (made c (map val refs)))
             ≡ some (stateOf (heapState (allocated heap c refs .0) (heapOnward fr (push rest (allocated heap c refs .1)) ∷ others)))
-        built rest refs p =
+        built small rest refs p =
             let heap′ : Heap = allocated heap c refs .0 in
             let kept : (k : ℕ) → Refers heap k → val k ≡ valueOf heap′ k = λ k there. sym (allocated-kept heap earlier c refs k there) in
             let frames : under ≡ map (frameOf heap′) others =
             map-alike (frameOf heap) (frameOf heap′)
             (λ w l. ap (λ (stack : List Value). record { function = w .function; instruction = w .instruction; stack = stack })
             (map-alike val (valueOf heap′) kept l)) below in
-            let stack : push (map val rest) (made c (map val refs)) ≡ map (valueOf heap′) (push rest (length heap)) =
+            let new : ℕ = allocated heap c refs .1 in
+            let stack : push (map val rest) (made c (map val refs)) ≡ map (valueOf heap′) (push rest new) =
             ap₂ (λ (l : List Value) (x : Value). push l x) (map-alike val (valueOf heap′) kept (p .0))
-            (sym (allocated-value heap earlier c refs (p .1)))
-            ∙ sym (map-append (valueOf heap′) rest (length heap ∷ [])) in
+            (sym (allocated-value heap earlier c small refs (p .1)))
+            ∙ sym (map-append (valueOf heap′) rest (new ∷ [])) in
             ap₂ (λ (l : List Value) (st : State). some (onward (frameOf heap fr) l ∷ st)) stack frames
 
     call-alike : (g : ℕ) → Alike (Call g)
@@ -193,13 +234,15 @@ module _ (s : Program) (heap : Heap) where
     executes-alike Return = return-alike fr others
     executes-alike Stop = stop-alike
 
-stepped : (s : Program) (heap : Heap) → NamesEarlier heap → (frames : List HeapFrame) → FramesRefer heap frames
+stepped : (s : Program) (heap : Heap) → length (s .constructors) ≤ 64 → NamesEarlier heap
+    → (frames : List HeapFrame) → FramesRefer heap frames
     → step s (map (frameOf heap) frames) ≡ optionMap stateOf (stepOn s heap frames)
 unfolding step stepOn current
-stepped s heap earlier [] l[] = refl
-stepped s heap earlier (fr ∷ others) (here l∷ below) =
-    bind-both stateOf (current s (placeOf fr)) _ _ (λ ins e. executes-alike s heap earlier fr others here below ins)
+stepped s heap few earlier [] l[] = refl
+stepped s heap few earlier (fr ∷ others) (here l∷ below) =
+    bind-both stateOf (current s (placeOf fr)) _ _ (λ ins e. executes-alike s heap few earlier fr others here below ins)
 
 -- one step over cells is one step over the values
-pub heap-step : (s : Program) (h : HeapState) → Valid h → step s (stateOf h) ≡ optionMap stateOf (heapStep s h)
-heap-step s h ok = stepped s (h .heap) (ok .earlier) (h .frames) (ok .refer)
+pub heap-step : (s : Program) → length (s .constructors) ≤ 64 → (h : HeapState) → Valid h
+    → step s (stateOf h) ≡ optionMap stateOf (heapStep s h)
+heap-step s few h ok = stepped s (h .heap) few (ok .earlier) (h .frames) (ok .refer)

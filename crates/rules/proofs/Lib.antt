@@ -51,3 +51,4 @@ pub mod MemoryLaws
 pub mod WriteLaws
 pub mod CheckLaws
 pub mod WordsSmall
+pub mod Constants

@@ -7,7 +7,7 @@ use mathlib.Core.Logic.{_↔_}
 use Prim.Native.Nat.{ℕ, zero, suc, _+_, _-_, _≤_, _<_, zero-le, suc-le-suc}
 use native.Mathlib.Omega.{arith}
 use native.Mathlib.Nat.{add-zero, not-suc-le-zero, le-of-suc-le-suc}
-use lib.ListN.{length, take, drop, getElem?, getD, set}
+use lib.ListN.{length, take, drop, getElem?, getD, set, length-drop, take-append-drop}
 use lib.Seq.{sets}
 use lib.Dec.{leb, ltb, eqb}
 use borrow.Author.Tests.{leb-true, le-leb, ltb-true, lt-ltb, eqb-true, eq-eqb}
@@ -78,6 +78,14 @@ split-parts {A} n xs {p} e = go (leb n (length xs)) refl e
         → (n ≤ length xs) × (p ≡ (take (length xs - n) xs, drop (length xs - n) xs))
     go true h e = (leb-true n (length xs) h, cc)
     go false h e = none-some e
+
+-- a stack that can be cut is its two parts
+pub cut : {A : Type 0} (k : ℕ) (xs rest top : List A) → split k xs ≡ some (rest, top) → (xs ≡ rest ++ top) × (length top ≡ k)
+cut {A} k xs rest top e =
+    let p = split-parts k xs e in
+    let r : rest ≡ take (length xs - k) xs = ap (λ (q : List A × List A). q .0) (p .1) in
+    let t : top ≡ drop (length xs - k) xs = ap (λ (q : List A × List A). q .1) (p .1) in
+    (rw (r, t, take-append-drop), rw t (simp length-drop (omega (arith, p .0))))
 
 module _ {A B : Type 0} {R : A → B → Type 0} where
   -- where the second can be split, so can the first

@@ -8,7 +8,7 @@ use Rattle.rules.specs.declared.records.Instruction.{Instruction}
 use Rattle.rules.specs.declared.records.Instruction.the-variants.{Load, Build, Call, Branch, Return, Stop}
 use Rattle.rules.specs.Program.{Program}
 use Rattle.rules.specs.Machine.{_>>=_, Value, State, current, execute, step, after, returned, resultOf, top}
-use Rattle.rules.specs.Promise.{takes, builds}
+use Rattle.rules.specs.Promise.{takes, buildsBy, builds}
 use Rattle.rules.proofs.ListLaws.{none-some, some-inj, all-slot, all-parts}
 use Rattle.rules.specs.Lists.{All}
 use Rattle.rules.specs.Stacks.{slot, split}
@@ -55,7 +55,7 @@ result-stops s (fr ∷ []) {v} e = one (current s fr) e
 -- the builds of one step more
 pub builds-next : (s : Program) (k : ℕ) (st mid next : State) → after s k st ≡ some mid → step s mid ≡ some next
     → builds s (suc k) st ≡ builds s k st + takes s mid
-unfolding after builds
+unfolding after buildsBy
 builds-next s zero st mid next e e′ = rw (some-inj e, e′) (omega arith)
 builds-next s (suc k) st mid next e e′ = one (step s st) refl e (λ st′ w. builds-next s k st′ mid next w e′)
   where

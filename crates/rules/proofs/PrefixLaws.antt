@@ -3,23 +3,52 @@
 use mathlib.Core.Path.{_≡_, refl, ap}
 use mathlib.Core.List.{List, [], _∷_, _++_, append-assoc, append-nil}
 use mathlib.Core.Option.{some}
-use mathlib.Core.Bool.{_&&_}
+use mathlib.Core.Bool.{_&&_, and-eq-true-iff}
+use native.Mathlib.Omega.{arith}
 use Prim.Native.Nat.{ℕ, suc, _≤_}
 use lib.ListN.{length, take, drop, take-append-drop}
 use lib.Seq.{take-append-seam, drop-append-seam}
 use lib.Dec.{leb, eqb}
 use borrow.Author.Tests.{eqb-true, leb-true}
-use Rattle.rules.specs.Base.{found}
+use Rattle.rules.specs.Base.{refusal, found, passed, require, orRefuse}
 use Rattle.rules.specs.Lists.{a[], _a∷_}
 use Rattle.rules.specs.Program.{Constructor, Function, Program, constructor}
 use Rattle.rules.specs.Tree.{Trees, node, nil, cons, toList, fromList, made}
 use Rattle.rules.specs.Machine.{Value}
 use Rattle.rules.specs.Values.{Has, AllHave, Typed}
-use Rattle.rules.specs.Prefix.{readByte, readBytes, argumentsRight, arityOf, values, written, writtenAll}
+use Rattle.rules.specs.Prefix.{readByte, readBytes, argumentsRight, arityOf, arity, values, written, writtenAll}
 use Rattle.rules.specs.Facts.{ArgumentFact, ReadBackFact}
 use Rattle.rules.proofs.ListLaws.{all2-length, all2-take, all2-drop, and-left}
-use Rattle.rules.proofs.TriedLaws.{bind-found, found-inj, refused-found, after-some, after-required}
+use Rattle.rules.proofs.TriedLaws.{bind-found, found-some, required, found-inj, refused-found, after-some, after-required}
 use Rattle.rules.proofs.Models.{to-from, have-list, have-trees}
+
+---- Bytes
+
+pub arity-is : (s : Program) (c : ℕ) {k : Constructor} → constructor s c ≡ some k → arity s c ≡ length (k .arguments)
+unfolding arityOf
+arity-is s c e = ap arityOf e
+
+-- a byte that is right: its constructor, and the types that are read next
+pub read-cons : (s : Program) (o c : ℕ) (bytes pending : List ℕ) → readBytes s o (c ∷ bytes) pending ≡ passed
+    → (t : ℕ) × (ps : List ℕ) × (k : Constructor) × (pending ≡ t ∷ ps) × (constructor s c ≡ some k) × (length (k .arguments ++ ps) ≤ 256)
+    × (readBytes s (suc o) bytes (k .arguments ++ ps) ≡ passed)
+unfolding readBytes readByte
+read-cons s o c bytes [] e = let z : _≡_ {A = ℕ} 0 1 = cc in absurd (omega arith)
+read-cons s o c bytes (t ∷ ps) e =
+    let a = bind-found (readByte s o c (t ∷ ps)) (λ p. readBytes s (suc o) bytes p) e in
+    let b = bind-found (orRefuse (constructor s c) (refusal 12 o 0)) _ (a .1) in
+    let x = bind-found (require (eqb (b .0 .result) t && leb (length (b .0 .arguments ++ ps)) 256) (refusal 12 o 0)) _ (b .2) in
+    let y = required _ _ (x .1) in
+    let same : b .0 .arguments ++ ps ≡ a .0 = cc in (
+      t,
+      ps,
+      b .0,
+      refl,
+      found-some _ _ (b .1),
+      leb-true _ 256 (and-eq-true-iff (eqb (b .0 .result) t)
+          (leb (length (b .0 .arguments ++ ps)) 256) .0 y .1),
+      rw same (a .2),
+    )
 
 ---- Read, then written
 

@@ -17,9 +17,9 @@ use Rattle.rules.specs.Values.{size, Has, Typed}
 use Rattle.rules.specs.Check.{checked}
 use Rattle.rules.specs.Prefix.{readByte, readBytes, argumentsRight, values, written}
 use Rattle.rules.specs.Run.{Lent, Tables, usable, Ending, finished, aborted, refusedWith, Outcome, answer, fits, refusalAt, endOf}
-use Rattle.rules.specs.Run.{continued, loaded, started, deliveredIn, delivered, run}
-use Rattle.rules.specs.Promise.{takes, builds, Room, NoRoom, frames, stack, heap, Ends, with-result, undelivered, stopped, spent}
-use Rattle.rules.specs.Promise.{short, Ran, Answers, no-entry, bad-arguments, no-room, began, TallyPromise}
+use Rattle.rules.specs.Run.{withArguments, cellsLoaded, continued, loaded, started, deliveredIn, delivered, run}
+use Rattle.rules.specs.Promise.{takes, buildsBy, builds, Room, NoRoom, frames, stack, heap, Ends, with-result, undelivered, stopped}
+use Rattle.rules.specs.Promise.{spent, short, Ran, Answers, no-entry, bad-arguments, no-room, began, TallyPromise}
 use Rattle.rules.specs.Facts.{NumberFact}
 use Rattle.rules.proofs.ListLaws.{none-some, some-inj}
 use Rattle.rules.proofs.TriedLaws.{Refuses, refuses-bind, refuses-required, refuses-some}
@@ -101,10 +101,10 @@ module _ {file : List ℕ} {s : Program} (P : Passed file s) (n : ℕ) (f : Func
     where
       one : Now st → Ok (continued s m zero steps st cells)
       one (done e w k) =
-          rw (continued-ended s m zero steps st cells w)
+          rw (continued-ended withArguments s m zero steps st cells w)
           (record { last = st; reached = r; within-budget = omega arith; fitted = fit; ending = k steps })
       one (on w next e h′) =
-          rw (continued-spent s m steps st cells w)
+          rw (continued-spent withArguments s m steps st cells w)
           (record { last = st; reached = r; within-budget = omega arith; fitted = fit; ending = spent (omega arith) next e })
   continued-ran (suc left) steps st cells b h r fit c =
       one (now st h) (λ next c′ g r′ fit′ e. continued-ran left (suc steps) next c′ (omega arith) g r′ fit′ e)
@@ -116,19 +116,19 @@ module _ {file : List ℕ} {s : Program} (P : Passed file s) (n : ℕ) (f : Func
 
       one : Now st → Later → Ok (continued s m (suc left) steps st cells)
       one (done e w k) ih =
-          rw (continued-ended s m (suc left) steps st cells w)
+          rw (continued-ended withArguments s m (suc left) steps st cells w)
           (record { last = st; reached = r; within-budget = omega arith; fitted = fit; ending = k steps })
-      one (on w next e h′) ih = two (step-within s m st cells next e)
+      one (on w next e h′) ih = two (step-within withArguments s m st cells next e)
         where
           more : cells + takes s st ≡ cells₀ + builds s (suc steps) (start n us)
           more = omega (arith, builds-next s steps (start n us) st next r e)
 
-          two : Stepping s m st cells next → Ok (continued s m (suc left) steps st cells)
+          two : Stepping withArguments s m st cells next → Ok (continued s m (suc left) steps st cells)
           two (inl q) =
               let r′ = after-next s steps (start n us) st next r e in
-              rw (continued-on s m left steps st cells w (q .0))
+              rw (continued-on withArguments s m left steps st cells w (q .0))
               (ih next (cells + takes s st) h′ r′ (fitted-next steps next fit r′ (rw more at (q .1))) more)
-          two (inr q) = rw (continued-short s m left steps st cells w (q .2)) (record {
+          two (inr q) = rw (continued-short withArguments s m left steps st cells w (q .2)) (record {
             last = st;
             reached = r;
             within-budget = omega arith;
@@ -137,13 +137,13 @@ module _ {file : List ℕ} {s : Program} (P : Passed file s) (n : ℕ) (f : Func
           })
 
   begins-fitted : Room m (start n us) cells₀ → Fitted 0
-  unfolding after builds
+  unfolding after buildsBy
   begins-fitted fits-start zero st le r = rw (← some-inj r, add-zero cells₀) fits-start
   begins-fitted fits-start (suc k) st le r = absurd (omega arith)
 
   -- from the start
   started-ran : (st : State) → start n us ≡ st → Room m st cells₀ → Ok (continued s m budget 0 st cells₀)
-  unfolding after builds
+  unfolding after buildsBy
   started-ran st e fits-start =
       rw (← e) (continued-ran budget 0 (start n us) cells₀ (omega arith) (begins P n f at-f us typed) refl
       (begins-fitted (rw (sym e) at fits-start)) (omega arith))
@@ -154,7 +154,7 @@ module _ (file : List ℕ) (s : Program) (e : checked file ≡ found s) where
   runs : (entry : ℕ) (arguments : List ℕ) (budget : ℕ) (lent : Lent)
       → Answers s entry arguments budget lent (run file entry arguments budget lent)
   unfolding delivered deliveredIn
-  runs entry arguments budget lent = rw (run-checked file entry arguments budget lent e) (one (function s entry) refl)
+  runs entry arguments budget lent = rw (run-checked withArguments file entry arguments budget lent e) (one (function s entry) refl)
     where
       Goal : Type 0
       Goal = Answers s entry arguments budget lent (delivered (lent .output) (started s (usable lent) budget entry arguments))
@@ -164,26 +164,30 @@ module _ (file : List ℕ) (s : Program) (e : checked file ≡ found s) where
 
       refuses : {r : Refusal} → loaded s (usable lent) entry arguments ≡ refused r
           → delivered (lent .output) (started s (usable lent) budget entry arguments) ≡ answer (refusedWith r) 0
-      refuses w = ap (delivered (lent .output)) (started-refused s (usable lent) budget entry arguments w)
+      refuses w = ap (delivered (lent .output)) (started-refused withArguments s (usable lent) budget entry arguments w)
 
       three : (f : Function) → function s entry ≡ some f → argumentsRight s f arguments ≡ passed → (t : Check)
-          → fits (usable lent) (start entry (values s arguments)) (length arguments) entry 1 ≡ t → Goal
+          → fits (usable lent) (start entry (values s arguments)) (cellsLoaded s arguments) entry 1 ≡ t → Goal
       three f at-f right (refused r) w =
-          let q = fits-refused (usable lent) begin (length arguments) entry 1 w in
+          let q = fits-refused (usable lent) begin (cellsLoaded s arguments) entry 1 w in
+          let not-loaded = load-no-room withArguments s (usable lent) entry arguments f at-f right w in
           no-room f at-f right (arguments-typed s f arguments right .1) (q .0) (q .1)
-          (refuses (load-no-room s (usable lent) entry arguments f at-f right w) ∙ ap (λ (x : Refusal). answer (refusedWith x) 0) (q .2))
+          (refuses not-loaded ∙ ap (λ (x : Refusal). answer (refusedWith x) 0) (q .2))
       three f at-f right (found u) w =
           let typed = arguments-typed s f arguments right .1 in
-          rw (started-loaded s (usable lent) budget entry arguments (load-begins s (usable lent) entry arguments f at-f right w))
+          let begins = load-begins withArguments s (usable lent) entry arguments f at-f right w in
+          rw (started-loaded withArguments s (usable lent) budget entry arguments begins)
           (began f at-f right typed (started-ran (checked-parts file s e) entry f at-f (values s arguments) typed (usable lent) budget
-          (lent .output) (length arguments) begin refl (fits-found (usable lent) begin (length arguments) entry 1 w)))
+          (lent .output) (cellsLoaded s arguments) begin refl (fits-found (usable lent) begin (cellsLoaded s arguments) entry 1 w)))
 
       two : (f : Function) → function s entry ≡ some f → (t : Check) → argumentsRight s f arguments ≡ t → Goal
-      two f at-f (refused r) a = bad-arguments f at-f r a (refuses (load-bad-arguments s (usable lent) entry arguments f at-f a))
-      two f at-f (found tt) a = three f at-f a (fits (usable lent) (start entry (values s arguments)) (length arguments) entry 1) refl
+      two f at-f (refused r) a =
+          bad-arguments f at-f r a (refuses (load-bad-arguments withArguments s (usable lent) entry arguments f at-f a))
+      two f at-f (found tt) a =
+          three f at-f a (fits (usable lent) (start entry (values s arguments)) (cellsLoaded s arguments) entry 1) refl
 
       one : (o : Option Function) → function s entry ≡ o → Goal
-      one none e₁ = no-entry e₁ (refuses (load-no-entry s (usable lent) entry arguments e₁))
+      one none e₁ = no-entry e₁ (refuses (load-no-entry withArguments s (usable lent) entry arguments e₁))
       one (some f) e₁ = two f e₁ (argumentsRight s f arguments) refl
 
 -- demand 3
@@ -220,7 +224,7 @@ no-room-number (frames h) = (omega arith, omega arith)
 no-room-number (stack h k) = (omega arith, omega arith)
 no-room-number (heap h k l) = (omega arith, omega arith)
 
-place-number : (k : ℕ) (st : State) → refusalAt k st .number ≡ k
+pub place-number : (k : ℕ) (st : State) → refusalAt k st .number ≡ k
 unfolding refusalAt
 place-number k [] = refl
 place-number k (fr ∷ frs) = refl

@@ -13,8 +13,8 @@ use Rattle.rules.specs.Program.{Function, Program, function}
 use Rattle.rules.specs.Machine.{State, start, current, step}
 use Rattle.rules.specs.Check.{checked}
 use Rattle.rules.specs.Prefix.{argumentsRight, values}
-use Rattle.rules.specs.Run.{Lent, Tables, usable, Ending, refusedWith, Outcome, heights, fits, cellsTaken, endOf, Point, stepWithin}
-use Rattle.rules.specs.Run.{continued, loaded, started, deliveredIn, delivered, run}
+use Rattle.rules.specs.Run.{withArguments, Lent, Tables, usable, Ending, refusedWith, Outcome, heights, fits, cellsTaken, endOf}
+use Rattle.rules.specs.Run.{Point, cellsLoaded, stepWithinBy, stepWithin, continued, loaded, started, deliveredIn, delivered, run}
 use Rattle.rules.specs.Promise.{Room, NoRoom, frames, stack, heap}
 use Rattle.rules.specs.Facts.{RoomFact}
 use Rattle.rules.proofs.RunLaws.{fits-found, fits-refused, continued-ended, continued-spent, continued-short, continued-on}
@@ -63,28 +63,29 @@ module _ (s : Program) (m w : Tables) (wider : Wider m w) where
           inr (r, refl, rw (q .2) (no-table (q .1)))
 
   step-same : (st : State) (cells : ℕ) → Same (stepWithin s m st cells) (stepWithin s w st cells)
-  unfolding stepWithin
+  unfolding stepWithinBy
   step-same [] cells = inl refl
   step-same (fr ∷ others) cells = one (step s (fr ∷ others)) refl
     where
       two : (next : State) → step s (fr ∷ others) ≡ some next
-          → Same (fits m next (cells + cellsTaken (current s fr)) (fr .function) (fr .instruction))
-          (fits w next (cells + cellsTaken (current s fr)) (fr .function) (fr .instruction))
+          → Same (fits m next (cells + cellsTaken s (current s fr)) (fr .function) (fr .instruction))
+          (fits w next (cells + cellsTaken s (current s fr)) (fr .function) (fr .instruction))
           → Same (stepWithin s m (fr ∷ others) cells) (stepWithin s w (fr ∷ others) cells)
       two next e (inl same) = inl (rw (e, same))
       two next e (inr (r, h, short)) = inr (r, rw (e, h), short)
 
       one : (o : Option State) → step s (fr ∷ others) ≡ o → Same (stepWithin s m (fr ∷ others) cells) (stepWithin s w (fr ∷ others) cells)
       one none e = inl (rw e)
-      one (some next) e = two next e (fits-same next (cells + cellsTaken (current s fr)) (fr .function) (fr .instruction))
+      one (some next) e = two next e (fits-same next (cells + cellsTaken s (current s fr)) (fr .function) (fr .instruction))
 
   continued-same : (left steps : ℕ) (st : State) (cells : ℕ) → EndsElse (continued s m left steps st cells .ending)
       → continued s w left steps st cells ≡ continued s m left steps st cells
   continued-same zero steps st cells h = one (endOf s st) refl
     where
       one : (o : Option (Ending (List ℕ))) → endOf s st ≡ o → continued s w zero steps st cells ≡ continued s m zero steps st cells
-      one (some e) o = continued-ended s w zero steps st cells o ∙ sym (continued-ended s m zero steps st cells o)
-      one none o = continued-spent s w steps st cells o ∙ sym (continued-spent s m steps st cells o)
+      one (some e) o =
+          continued-ended withArguments s w zero steps st cells o ∙ sym (continued-ended withArguments s m zero steps st cells o)
+      one none o = continued-spent withArguments s w steps st cells o ∙ sym (continued-spent withArguments s m steps st cells o)
   continued-same (suc left) steps st cells h =
       one (λ p h′. continued-same left (suc steps) (p .0) (p .1) h′) (endOf s st) refl
     where
@@ -97,40 +98,46 @@ module _ (s : Program) (m w : Tables) (wider : Wider m w) where
 
       two : Later → endOf s st ≡ none → (t : Tried Point) → stepWithin s m st cells ≡ t → stepWithin s w st cells ≡ t → Goal
       two ih o (found p) e e′ =
-          let on = continued-on s m left steps st cells o e in
-          continued-on s w left steps st cells o e′ ∙ ih p (rw on at h) ∙ sym on
-      two ih o (refused r) e e′ = continued-short s w left steps st cells o e′ ∙ sym (continued-short s m left steps st cells o e)
+          let on = continued-on withArguments s m left steps st cells o e in
+          continued-on withArguments s w left steps st cells o e′ ∙ ih p (rw on at h) ∙ sym on
+      two ih o (refused r) e e′ =
+          continued-short withArguments s w left steps st cells o e′ ∙ sym (continued-short withArguments s m left steps st cells o e)
 
       three : Later → endOf s st ≡ none → Same (stepWithin s m st cells) (stepWithin s w st cells) → Goal
       three ih o (inl same) = two ih o (stepWithin s m st cells) refl same
-      three ih o (inr (r, e, short)) = absurd (short (h r (ap (λ (a : Outcome). a .ending) (continued-short s m left steps st cells o e))))
+      three ih o (inr (r, e, short)) =
+          let ends = continued-short withArguments s m left steps st cells o e in
+          absurd (short (h r (ap (λ (a : Outcome). a .ending) ends)))
 
       one : Later → (o : Option (Ending (List ℕ))) → endOf s st ≡ o → Goal
-      one ih (some e) o = continued-ended s w (suc left) steps st cells o ∙ sym (continued-ended s m (suc left) steps st cells o)
+      one ih (some e) o =
+          continued-ended withArguments s w (suc left) steps st cells o
+          ∙ sym (continued-ended withArguments s m (suc left) steps st cells o)
       one ih none o = three ih o (step-same st cells)
 
   loaded-same : (entry : ℕ) (bytes : List ℕ) → Same (loaded s m entry bytes) (loaded s w entry bytes)
   loaded-same entry bytes = one (function s entry) refl
     where
       three : (f : Function) → function s entry ≡ some f → argumentsRight s f bytes ≡ passed
-          → (t : Check) → fits m (start entry (values s bytes)) (length bytes) entry 1 ≡ t
-          → Same t (fits w (start entry (values s bytes)) (length bytes) entry 1)
+          → (t : Check) → fits m (start entry (values s bytes)) (cellsLoaded s bytes) entry 1 ≡ t
+          → Same t (fits w (start entry (values s bytes)) (cellsLoaded s bytes) entry 1)
           → Same (loaded s m entry bytes) (loaded s w entry bytes)
       three f e a (found u) h (inl same) =
-          inl (load-begins s w entry bytes f e a same ∙ sym (load-begins s m entry bytes f e a h))
+          inl (load-begins withArguments s w entry bytes f e a same ∙ sym (load-begins withArguments s m entry bytes f e a h))
       three f e a (refused r) h (inl same) =
-          inl (load-no-room s w entry bytes f e a same ∙ sym (load-no-room s m entry bytes f e a h))
-      three f e a t h (inr (r, k, short)) = inr (r, load-no-room s m entry bytes f e a (h ∙ k), short)
+          inl (load-no-room withArguments s w entry bytes f e a same ∙ sym (load-no-room withArguments s m entry bytes f e a h))
+      three f e a t h (inr (r, k, short)) = inr (r, load-no-room withArguments s m entry bytes f e a (h ∙ k), short)
 
       two : (f : Function) → function s entry ≡ some f → (t : Check) → argumentsRight s f bytes ≡ t
           → Same (loaded s m entry bytes) (loaded s w entry bytes)
-      two f e (refused r) a = inl (load-bad-arguments s w entry bytes f e a ∙ sym (load-bad-arguments s m entry bytes f e a))
+      two f e (refused r) a =
+          inl (load-bad-arguments withArguments s w entry bytes f e a ∙ sym (load-bad-arguments withArguments s m entry bytes f e a))
       two f e (found u) a =
-          three f e a (fits m (start entry (values s bytes)) (length bytes) entry 1) refl
-          (fits-same (start entry (values s bytes)) (length bytes) entry 1)
+          three f e a (fits m (start entry (values s bytes)) (cellsLoaded s bytes) entry 1) refl
+          (fits-same (start entry (values s bytes)) (cellsLoaded s bytes) entry 1)
 
       one : (o : Option Function) → function s entry ≡ o → Same (loaded s m entry bytes) (loaded s w entry bytes)
-      one none e = inl (load-no-entry s w entry bytes e ∙ sym (load-no-entry s m entry bytes e))
+      one none e = inl (load-no-entry withArguments s w entry bytes e ∙ sym (load-no-entry withArguments s m entry bytes e))
       one (some f) e = two f e (argumentsRight s f bytes) refl
 
   started-same : (budget entry : ℕ) (bytes : List ℕ) → EndsElse (started s m budget entry bytes .ending)
@@ -142,13 +149,15 @@ module _ (s : Program) (m w : Tables) (wider : Wider m w) where
 
       two : (t : Tried State) → loaded s m entry bytes ≡ t → loaded s w entry bytes ≡ t → Goal
       two (found st) e e′ =
-          let on = started-loaded s m budget entry bytes e in
-          started-loaded s w budget entry bytes e′ ∙ continued-same budget 0 st (length bytes) (rw on at h) ∙ sym on
-      two (refused r) e e′ = started-refused s w budget entry bytes e′ ∙ sym (started-refused s m budget entry bytes e)
+          let on = started-loaded withArguments s m budget entry bytes e in
+          started-loaded withArguments s w budget entry bytes e′ ∙ continued-same budget 0 st (cellsLoaded s bytes) (rw on at h) ∙ sym on
+      two (refused r) e e′ =
+          started-refused withArguments s w budget entry bytes e′ ∙ sym (started-refused withArguments s m budget entry bytes e)
 
       one : Same (loaded s m entry bytes) (loaded s w entry bytes) → Goal
       one (inl same) = two (loaded s m entry bytes) refl same
-      one (inr (r, e, short)) = absurd (short (h r (ap (λ (a : Outcome). a .ending) (started-refused s m budget entry bytes e))))
+      one (inr (r, e, short)) =
+          absurd (short (h r (ap (λ (a : Outcome). a .ending) (started-refused withArguments s m budget entry bytes e))))
 
 -- what is delivered of a refusal is that refusal
 delivered-else : (room : ℕ) (a : Outcome) → EndsElse (delivered room a .ending) → EndsElse (a .ending)
@@ -159,9 +168,11 @@ pub room-fact : RoomFact
 room-fact file entry arguments budget lent more c t f o h = one (checked file) refl
   where
     one : (k : Tried Program) → checked file ≡ k → run file entry arguments budget more ≡ run file entry arguments budget lent
-    one (refused r) e = run-refused file entry arguments budget more e ∙ sym (run-refused file entry arguments budget lent e)
+    one (refused r) e =
+        run-refused withArguments file entry arguments budget more e
+        ∙ sym (run-refused withArguments file entry arguments budget lent e)
     one (found s) e =
-        let on = run-checked file entry arguments budget lent e in
+        let on = run-checked withArguments file entry arguments budget lent e in
         let ends = delivered-else (lent .output) (started s (usable lent) budget entry arguments) (rw on at h) in
         let same = started-same s (usable lent) (usable more) (usable-wider lent more c t f) budget entry arguments ends in
-        run-checked file entry arguments budget more e ∙ rw (← o, same) (sym on)
+        run-checked withArguments file entry arguments budget more e ∙ rw (← o, same) (sym on)

@@ -13,9 +13,10 @@ use Rattle.rules.specs.Program.{Function, Program, function}
 use Rattle.rules.specs.Machine.{State, start, current, step}
 use Rattle.rules.specs.Check.{checked}
 use Rattle.rules.specs.Prefix.{argumentsRight, values}
-use Rattle.rules.specs.Run.{Lent, Tables, usable, Ending, finished, aborted, refusedWith, answer, heights, fits, cellsTaken}
-use Rattle.rules.specs.Run.{refusalAt, endOf, Point, stepWithin, continued, loaded, started, deliveredIn, delivered, run}
-use Rattle.rules.specs.Promise.{takes, Room, NoRoom, frames, stack, heap}
+use Rattle.rules.specs.Run.{Lent, Tables, CellRule, usableBy, cellsTakenBy, cellsLoadedBy, Ending, finished, aborted, refusedWith}
+use Rattle.rules.specs.Run.{answer, heights, fits, refusalAt, endOf, Point, stepWithinBy, continuedBy, loadedBy, startedBy}
+use Rattle.rules.specs.Run.{deliveredIn, delivered, runBy}
+use Rattle.rules.specs.Promise.{takesBy, Room, NoRoom, frames, stack, heap}
 use Rattle.rules.proofs.ListLaws.{none-some}
 use Rattle.rules.proofs.TriedLaws.{refused-found, after-required, required}
 
@@ -46,78 +47,86 @@ fits-refused m st cells f i {r} e = one (leb (length st) (m .frames)) refl (leb 
 ---- A step
 
 -- a step within the tables, or 15 to 17 at the top frame's place
-abbrev pub Stepping : Program → Tables → State → ℕ → State → Type 0
-Stepping s m st cells next =
-    ((stepWithin s m st cells ≡ found (next, cells + takes s st)) × Room m next (cells + takes s st))
-    ⊎ ((number : ℕ) × NoRoom m next (cells + takes s st) number × (stepWithin s m st cells ≡ refused (refusalAt number st)))
+abbrev pub Stepping : CellRule → Program → Tables → State → ℕ → State → Type 0
+Stepping rule s m st cells next =
+    ((stepWithinBy rule s m st cells ≡ found (next, cells + takesBy rule s st)) × Room m next (cells + takesBy rule s st))
+    ⊎ ((number : ℕ) × NoRoom m next (cells + takesBy rule s st) number × (stepWithinBy rule s m st cells ≡ refused (refusalAt number st)))
 
-pub step-within : (s : Program) (m : Tables) (st : State) (cells : ℕ) (next : State) → step s st ≡ some next → Stepping s m st cells next
-unfolding stepWithin step refusalAt
-step-within s m [] cells next e = none-some e
-step-within s m (fr ∷ frs) cells next e = one (fits m next (cells + cellsTaken (current s fr)) (fr .function) (fr .instruction)) refl
+pub step-within : (rule : CellRule) (s : Program) (m : Tables) (st : State) (cells : ℕ) (next : State) → step s st ≡ some next
+    → Stepping rule s m st cells next
+unfolding stepWithinBy step refusalAt
+step-within rule s m [] cells next e = none-some e
+step-within rule s m (fr ∷ frs) cells next e = one (fits m next cells′ (fr .function) (fr .instruction)) refl
   where
-    one : (t : Check) → fits m next (cells + cellsTaken (current s fr)) (fr .function) (fr .instruction) ≡ t
-        → Stepping s m (fr ∷ frs) cells next
-    one (found u) w = inl (rw (e, w), fits-found m next (cells + cellsTaken (current s fr)) (fr .function) (fr .instruction) w)
+    cells′ : ℕ
+    cells′ = cells + cellsTakenBy rule s (current s fr)
+
+    one : (t : Check) → fits m next cells′ (fr .function) (fr .instruction) ≡ t → Stepping rule s m (fr ∷ frs) cells next
+    one (found u) w = inl (rw (e, w), fits-found m next cells′ (fr .function) (fr .instruction) w)
     one (refused r) w =
-        let q = fits-refused m next (cells + cellsTaken (current s fr)) (fr .function) (fr .instruction) w in
-        let is : stepWithin s m (fr ∷ frs) cells ≡ refused r = rw (e, w) in
+        let q = fits-refused m next cells′ (fr .function) (fr .instruction) w in
+        let is : stepWithinBy rule s m (fr ∷ frs) cells ≡ refused r = rw (e, w) in
         inr (q .0, q .1, is ∙ ap refused (q .2))
 
 ---- The rest of a run
 
-module _ (s : Program) (m : Tables) where
+module _ (rule : CellRule) (s : Program) (m : Tables) where
   pub continued-ended : (left steps : ℕ) (st : State) (cells : ℕ) {e : Ending (List ℕ)} → endOf s st ≡ some e
-      → continued s m left steps st cells ≡ answer e steps
-  unfolding continued
-  continued-ended zero steps st cells h = rw (h, continued)
-  continued-ended (suc left) steps st cells h = rw (h, continued)
+      → continuedBy rule s m left steps st cells ≡ answer e steps
+  unfolding continuedBy
+  continued-ended zero steps st cells h = rw (h, continuedBy)
+  continued-ended (suc left) steps st cells h = rw (h, continuedBy)
 
   pub continued-spent : (steps : ℕ) (st : State) (cells : ℕ) → endOf s st ≡ none
-      → continued s m zero steps st cells ≡ answer (refusedWith (refusalAt 14 st)) steps
-  unfolding continued
-  continued-spent steps st cells h = rw (h, continued)
+      → continuedBy rule s m zero steps st cells ≡ answer (refusedWith (refusalAt 14 st)) steps
+  unfolding continuedBy
+  continued-spent steps st cells h = rw (h, continuedBy)
 
-  pub continued-short : (left steps : ℕ) (st : State) (cells : ℕ) {r : Refusal} → endOf s st ≡ none → stepWithin s m st cells ≡ refused r
-      → continued s m (suc left) steps st cells ≡ answer (refusedWith r) steps
-  unfolding continued
-  continued-short left steps st cells h w = rw (h, continued, w)
+  pub continued-short : (left steps : ℕ) (st : State) (cells : ℕ) {r : Refusal} → endOf s st ≡ none
+      → stepWithinBy rule s m st cells ≡ refused r
+      → continuedBy rule s m (suc left) steps st cells ≡ answer (refusedWith r) steps
+  unfolding continuedBy
+  continued-short left steps st cells h w = rw (h, continuedBy, w)
 
-  pub continued-on : (left steps : ℕ) (st : State) (cells : ℕ) {p : Point} → endOf s st ≡ none → stepWithin s m st cells ≡ found p
-      → continued s m (suc left) steps st cells ≡ continued s m left (suc steps) (p .0) (p .1)
-  unfolding continued
-  continued-on left steps st cells h w = rw (h, continued, w)
+  pub continued-on : (left steps : ℕ) (st : State) (cells : ℕ) {p : Point} → endOf s st ≡ none
+      → stepWithinBy rule s m st cells ≡ found p
+      → continuedBy rule s m (suc left) steps st cells ≡ continuedBy rule s m left (suc steps) (p .0) (p .1)
+  unfolding continuedBy
+  continued-on left steps st cells h w = rw (h, continuedBy, w)
 
 ---- The start
 
-pub started-refused : (s : Program) (m : Tables) (budget entry : ℕ) (args : List ℕ) {r : Refusal} → loaded s m entry args ≡ refused r
-    → started s m budget entry args ≡ answer (refusedWith r) 0
-unfolding started
-started-refused s m budget entry args e = rw (e, started)
+pub started-refused : (rule : CellRule) (s : Program) (m : Tables) (budget entry : ℕ) (args : List ℕ) {r : Refusal}
+    → loadedBy rule s m entry args ≡ refused r
+    → startedBy rule s m budget entry args ≡ answer (refusedWith r) 0
+unfolding startedBy
+started-refused rule s m budget entry args e = rw (e, startedBy)
 
-pub started-loaded : (s : Program) (m : Tables) (budget entry : ℕ) (args : List ℕ) {st : State} → loaded s m entry args ≡ found st
-    → started s m budget entry args ≡ continued s m budget 0 st (length args)
-unfolding started
-started-loaded s m budget entry args e = rw (e, started)
+pub started-loaded : (rule : CellRule) (s : Program) (m : Tables) (budget entry : ℕ) (args : List ℕ) {st : State}
+    → loadedBy rule s m entry args ≡ found st
+    → startedBy rule s m budget entry args ≡ continuedBy rule s m budget 0 st (cellsLoadedBy rule s args)
+unfolding startedBy
+started-loaded rule s m budget entry args e = rw (e, startedBy)
 
-module _ (s : Program) (m : Tables) (entry : ℕ) (bytes : List ℕ) where
-  pub load-no-entry : function s entry ≡ none → loaded s m entry bytes ≡ refused (refusal 11 entry 0)
-  unfolding loaded
+module _ (rule : CellRule) (s : Program) (m : Tables) (entry : ℕ) (bytes : List ℕ) where
+  pub load-no-entry : function s entry ≡ none → loadedBy rule s m entry bytes ≡ refused (refusal 11 entry 0)
+  unfolding loadedBy
   load-no-entry e = rw e
 
   module _ (f : Function) (e : function s entry ≡ some f) where
-    pub load-bad-arguments : {r : Refusal} → argumentsRight s f bytes ≡ refused r → loaded s m entry bytes ≡ refused r
-    unfolding loaded
+    pub load-bad-arguments : {r : Refusal} → argumentsRight s f bytes ≡ refused r → loadedBy rule s m entry bytes ≡ refused r
+    unfolding loadedBy
     load-bad-arguments a = rw (e, a)
 
     pub load-no-room : {r : Refusal} → argumentsRight s f bytes ≡ passed
-        → fits m (start entry (values s bytes)) (length bytes) entry 1 ≡ refused r → loaded s m entry bytes ≡ refused r
-    unfolding loaded
+        → fits m (start entry (values s bytes)) (cellsLoadedBy rule s bytes) entry 1 ≡ refused r → loadedBy rule s m entry bytes ≡ refused r
+    unfolding loadedBy
     load-no-room a w = rw (e, a, w)
 
-    pub load-begins : argumentsRight s f bytes ≡ passed → fits m (start entry (values s bytes)) (length bytes) entry 1 ≡ passed
-        → loaded s m entry bytes ≡ found (start entry (values s bytes))
-    unfolding loaded
+    pub load-begins : argumentsRight s f bytes ≡ passed
+        → fits m (start entry (values s bytes)) (cellsLoadedBy rule s bytes) entry 1 ≡ passed
+        → loadedBy rule s m entry bytes ≡ found (start entry (values s bytes))
+    unfolding loadedBy
     load-begins a w = rw (e, a, w)
 
 ---- The output
@@ -143,12 +152,14 @@ module _ (room steps : ℕ) where
 
 ---- The whole run
 
-pub run-refused : (file : List ℕ) (entry : ℕ) (bytes : List ℕ) (budget : ℕ) (lent : Lent) {r : Refusal} → checked file ≡ refused r
-    → run file entry bytes budget lent ≡ answer (refusedWith r) 0
-unfolding run
-run-refused file entry bytes budget lent e = rw (e, run)
+pub run-refused : (rule : CellRule) (file : List ℕ) (entry : ℕ) (bytes : List ℕ) (budget : ℕ) (lent : Lent) {r : Refusal}
+    → checked file ≡ refused r
+    → runBy rule file entry bytes budget lent ≡ answer (refusedWith r) 0
+unfolding runBy
+run-refused rule file entry bytes budget lent e = rw (e, runBy)
 
-pub run-checked : (file : List ℕ) (entry : ℕ) (bytes : List ℕ) (budget : ℕ) (lent : Lent) {s : Program} → checked file ≡ found s
-    → run file entry bytes budget lent ≡ delivered (lent .output) (started s (usable lent) budget entry bytes)
-unfolding run
-run-checked file entry bytes budget lent e = rw (e, run)
+pub run-checked : (rule : CellRule) (file : List ℕ) (entry : ℕ) (bytes : List ℕ) (budget : ℕ) (lent : Lent) {s : Program}
+    → checked file ≡ found s
+    → runBy rule file entry bytes budget lent ≡ delivered (lent .output) (startedBy rule s (usableBy rule lent) budget entry bytes)
+unfolding runBy
+run-checked rule file entry bytes budget lent e = rw (e, runBy)

@@ -26,7 +26,7 @@ use Rattle.rules.specs.Shapes.{Shape, withStack, splitVariable, coveredA
 use Rattle.rules.specs.Shapes.{sizesOf}
 use Rattle.rules.specs.Judgements.{branch-on, wsh, Covered, SizedBefore, WellSized}
 use Rattle.rules.specs.Refusals.{ArriveWith, TooMany, Many, CoverFails, ManyFails}
-use Rattle.rules.proofs.ListLaws.{some-inj, slot-low, all-one, all-two, all-append, all-slot, all-parts}
+use Rattle.rules.proofs.ListLaws.{some-inj, slot-low, all-one, all-two, all-append, all-slot, all-parts, cut}
 use Rattle.rules.proofs.TriedLaws.{found-inj, refused-found, refused-inj, only-refused, found-required}
 use Rattle.rules.proofs.VerdictLaws.{verdict-of, verdict-decides}
 use Rattle.rules.proofs.EachLaws.{StopsAt, level}
@@ -42,7 +42,7 @@ use Rattle.rules.proofs.ExpressionLaws.{every-list, every-trees, every-
 use Rattle.rules.proofs.ExpressionLaws.{Full, arguments-stay, variables-length}
 use Rattle.rules.proofs.Models.{to-from}
 use Rattle.rules.proofs.Calls.{branch-plain}
-use Rattle.rules.proofs.TypesExact.{Passes, cut, joined}
+use Rattle.rules.proofs.TypesExact.{Passes, joined}
 use Rattle.rules.proofs.CoverExact.{covered-iff, uncovered}
 
 ---- From shapes that stand to Table 3

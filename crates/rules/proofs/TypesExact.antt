@@ -2,10 +2,10 @@
 use mathlib.Core.Path.{_≡_, refl, sym, ap, _∙_}
 use mathlib.Core.List.{List, [], _∷_, _++_}
 use mathlib.Core.Option.{Option, none, some}
-use Prim.Native.Nat.{ℕ, suc, _-_, _≤_, _<_}
+use Prim.Native.Nat.{ℕ, suc, _≤_, _<_}
 use native.Mathlib.Omega.{arith}
 use native.Mathlib.Nat.{le-trans, le-of-eq}
-use lib.ListN.{length, take, drop, take-append-drop, length-drop}
+use lib.ListN.{length}
 use lib.Dec.{leb}
 use Rattle.rules.specs.declared.records.Instruction.{Instruction}
 use Rattle.rules.specs.declared.records.Instruction.the-variants.{Load, Build, Call, Branch, Return, Stop}
@@ -18,7 +18,7 @@ use Rattle.rules.specs.Walk.{targets, Arrow, rootAt, judge, judged}
 use Rattle.rules.specs.Types.{same, below, typesOn, typeRule, typesAt, typesOf, typesRight}
 use Rattle.rules.specs.Judgements.{wt, TypedBefore, WellTyped}
 use Rattle.rules.specs.Refusals.{TypesFail}
-use Rattle.rules.proofs.ListLaws.{some-inj, slot-low, split-parts, all-one, all-two}
+use Rattle.rules.proofs.ListLaws.{cut, some-inj, slot-low, all-one, all-two}
 use Rattle.rules.proofs.TriedLaws.{Refuses, refuses-bind, refuses-required, refuses-some, refused-found, only-refused}
 use Rattle.rules.proofs.VerdictLaws.{verdict-of, verdict-decides}
 use Rattle.rules.proofs.EachLaws.{StopsAt, level, each-from-0}
@@ -29,14 +29,6 @@ use Rattle.rules.proofs.OutcomeLaws.{split-append, below-ends, types-on
 use Rattle.rules.proofs.OutcomeLaws.{return-typed, stop-typed}
 use Rattle.rules.proofs.Accepted.{FlowsRightly, low-states, checked-parts, decoded-function, flowing}
 use Rattle.rules.specs.Facts.{TypesFact}
-
--- a stack that can be cut is its two parts
-pub cut : {A : Type 0} (k : ℕ) (xs rest top : List A) → split k xs ≡ some (rest, top) → (xs ≡ rest ++ top) × (length top ≡ k)
-cut {A} k xs rest top e =
-    let p = split-parts k xs e in
-    let r : rest ≡ take (length xs - k) xs = ap (λ (q : List A × List A). q .0) (p .1) in
-    let t : top ≡ drop (length xs - k) xs = ap (λ (q : List A × List A). q .1) (p .1) in
-    (rw (r, t, take-append-drop), rw t (simp length-drop (omega (arith, p .0))))
 
 pub joined : {A : Type 0} (k : ℕ) (xs rest top : List A) → xs ≡ rest ++ top → length top ≡ k → split k xs ≡ some (rest, top)
 joined k xs rest top e len = rw (e, ← len) (split-append rest top)

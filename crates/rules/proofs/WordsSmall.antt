@@ -32,7 +32,7 @@ use Rattle.rules.specs.Types.{typeRule}
 use Rattle.rules.specs.Machine.{Value, Frame, State, start, after, resultOf}
 use Rattle.rules.specs.Values.{Typed}
 use Rattle.rules.specs.Prefix.{argumentsRight, values, written}
-use Rattle.rules.specs.Run.{Lent, usable, Ending, refusedWith, Outcome, refusalAt, run}
+use Rattle.rules.specs.Run.{Lent, withArguments, usable, Ending, refusedWith, Outcome, refusalAt, run}
 use Rattle.rules.specs.Promise.{workedOut, Kept, Ends, with-result, undelivered, stopped, spent, short, Answers}
 use Rattle.rules.specs.Promise.{no-entry, bad-arguments, no-room, began}
 use Rattle.rules.specs.Answers.{lengthOf, measuredEnding, measured, checkWords, lengthWords, endWords, runWords}
@@ -41,6 +41,7 @@ use Rattle.rules.proofs.ListLaws.{none-some, at-less, slot-low, and-lef
 use Rattle.rules.proofs.WalkLaws.{state-stands}
 use Rattle.rules.proofs.ArgumentExact.{argument-exact}
 use Rattle.rules.proofs.ResultLaws.{result-fact}
+use Rattle.rules.proofs.RunLaws.{run-refused}
 use Rattle.rules.proofs.Promise.{tally-promise, no-room-number}
 use Rattle.rules.proofs.NumberedLaws.{numbered-length, numbered-all}
 use Rattle.rules.proofs.RecordLaws.{arguments-length, records-there}
@@ -135,6 +136,10 @@ limits {file} {s} u =
           numbered-all (λ g. functionOf bytes (headOffset bytes g)) (byteAt bytes 3) 0
           (λ g l. rw (zero-add g) (function-small bytes (headOffset bytes g) (t .function g l)));
     })
+
+-- constants have the numbers below 64
+pub few-constructors : (file : List ℕ) (s : Program) → checked file ≡ found s → length (s .constructors) ≤ 64
+few-constructors file s e = limits (check-exact file s .0 e .typed .flowing .bounded .declared .read) .constructors-most
 
 module _ {s : Program} (L : Limits s) where
   -- a number that names a constructor or a function is below their count
@@ -345,8 +350,8 @@ module _ (file : List ℕ) (small : Bytes file) (entry : ℕ) (entry-small : ent
 
   -- the check refuses with a place of its own, or the promise says how the run went
   run-told : (t : Tried Program) → checked file ≡ t → Told (run file entry args budget lent)
-  unfolding run
-  run-told (refused r) e = rw (e, run) (run-place-words 0 (checked-fits file e) (omega arith))
+  run-told (refused r) e =
+      rw (run-refused withArguments file entry args budget lent e) (run-place-words 0 (checked-fits file e) (omega arith))
   run-told (found s) e = answers-fit s e (run file entry args budget lent) (tally-promise file s e .runs entry args budget lent)
 
 -- the same of every file

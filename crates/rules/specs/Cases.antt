@@ -54,6 +54,7 @@ cases =
     (checking misdirected, refuses (refusal 7 0 2)) ∷  -- K5
     (running roots panel 1000 (3 ∷ 1 ∷ 2 ∷ []), ran (answer (finished (5 ∷ 4 ∷ [])) 10)) ∷  -- K6
     (running roots panel 1000 (2 ∷ []), ran (answer (finished (4 ∷ [])) 3)) ∷  -- K7
+    (running roots (lending 0 2048) 1000 (2 ∷ []), ran (answer (finished (4 ∷ [])) 3)) ∷  -- K7, without a cell
     (running roots panel 1000 (3 ∷ 0 ∷ 2 ∷ []), ran (answer (finished (4 ∷ [])) 10)) ∷  -- K8
     (running roots panel 9 (3 ∷ 1 ∷ 2 ∷ []), ran (answer (refusedWith (refusal 14 0 6)) 9)) ∷  -- K9
     (running roots panel 10 (3 ∷ 1 ∷ 2 ∷ []), ran (answer (finished (5 ∷ 4 ∷ [])) 10)) ∷  -- K9
@@ -61,7 +62,8 @@ cases =
     (running roots panel 1000 (4 ∷ []), ran (answer (refusedWith (refusal 12 0 0)) 0)) ∷  -- K11
     (running roots (lending 4096 5) 1000 (3 ∷ 1 ∷ 2 ∷ []), ran (answer (refusedWith (refusal 16 0 11)) 7)) ∷  -- K12
     (running roots (lending 4096 6) 1000 (3 ∷ 1 ∷ 2 ∷ []), ran (answer (finished (5 ∷ 4 ∷ [])) 10)) ∷  -- K12
-    (running roots (lending 4 2048) 1000 (3 ∷ 1 ∷ 2 ∷ []), ran (answer (refusedWith (refusal 15 0 6)) 9)) ∷  -- K13
+    (running roots (lending 1 2048) 1000 (3 ∷ 1 ∷ 2 ∷ []), ran (answer (refusedWith (refusal 15 0 6)) 9)) ∷  -- K13
+    (running roots (lending 2 2048) 1000 (3 ∷ 1 ∷ 2 ∷ []), ran (answer (finished (5 ∷ 4 ∷ [])) 10)) ∷  -- K13
     (running stopping panel 1 [], ran (answer aborted 1)) ∷  -- K14
     []
 

@@ -18,8 +18,8 @@ use Rattle.rules.specs.Shapes.{splitVariable, coveredAt, enter, branchOn
 use Rattle.rules.specs.Check.{checked, verdictOf}
 use Rattle.rules.specs.Machine.{current, answered, execute, step, after, returned, resultOf}
 use Rattle.rules.specs.Prefix.{readByte, readBytes, argumentsRight, arityOf, values, written}
-use Rattle.rules.specs.Run.{heights, fits, cellsTaken, refusalAt, endOf, stepWithin, continued, loaded, started, deliveredIn}
-use Rattle.rules.specs.Run.{delivered, run}
+use Rattle.rules.specs.Run.{heights, fits, cellsTakenBy, cellsLoadedBy, refusalAt, endOf, stepWithinBy, continuedBy, loadedBy}
+use Rattle.rules.specs.Run.{startedBy, deliveredIn, delivered, runBy}
 use Rattle.rules.specs.Lines.{entriesOf, entries, tableRight, lookup, textLines, lineRight, code, codes, listOf, inRoom, linesOf}
 use Rattle.rules.specs.Memory.{begun}
 
@@ -39,6 +39,6 @@ unfolding numbered forEach each
     checked verdictOf
     current answered execute step after returned resultOf
     readByte readBytes argumentsRight arityOf values written
-    heights fits cellsTaken refusalAt endOf stepWithin continued loaded started deliveredIn delivered run begun
+    heights fits cellsTakenBy cellsLoadedBy refusalAt endOf stepWithinBy continuedBy loadedBy startedBy deliveredIn delivered runBy begun
     entriesOf entries tableRight lookup textLines lineRight code codes listOf inRoom linesOf
 computed = tt

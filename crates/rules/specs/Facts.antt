@@ -104,10 +104,10 @@ RoomFact =
     → (r .number ≡ 15 → ⊥) × (r .number ≡ 16 → ⊥) × (r .number ≡ 17 → ⊥))
     → run file entry arguments budget more ≡ run file entry arguments budget lent
 
--- The run over heap cells, in which "Every argument byte and every build takes a cell, and a cell only ever names cells made before it",
--- answers as the run over values
+-- The run over heap cells, in which "A constructor of arity 0 becomes the number of its constructor", every other argument byte and build
+-- takes a cell, "and a cell only ever names cells made before it", answers as the run over values: there are at most 64 constructors
 abbrev pub HeapFact : Type 0
-HeapFact = (s : Program) (m : Tables) (budget entry : ℕ) (bytes : List ℕ)
+HeapFact = (s : Program) → length (s .constructors) ≤ 64 → (m : Tables) (budget entry : ℕ) (bytes : List ℕ)
     → startedOn s m budget entry bytes ≡ started s m budget entry bytes
 
 -- Definition 3: where the check accepts, 001's inequality holds at each visited instruction for all sizes of the variables, which are at

@@ -1,10 +1,12 @@
 -- The machine over heap cells: what stands in the lent tables, one step of it, and the state of values that it stands for. Document 01,
--- "The run". What a run needs of the cells, and what a step does to them, are facts of this machine and not of the one over values.
+-- "The run", and document 02, "Constants take no cell". What a run needs of the cells, and what a step does to them, are facts of this
+-- machine and not of the one over values.
 use mathlib.Core.List.{List, [], _∷_, _++_, map}
 use mathlib.Core.Option.{Option, none, some}
-use Prim.Native.Nat.{ℕ, zero, suc, _<_}
+use mathlib.Core.Bool.{Bool}
+use Prim.Native.Nat.{ℕ, zero, suc, _+_, _-_, _<_}
 use lib.ListN.{length, getD, take, drop}
-use lib.Dec.{eqb}
+use lib.Dec.{eqb, ltb}
 use Rattle.rules.specs.declared.records.Instruction.{Instruction}
 use Rattle.rules.specs.declared.records.Instruction.the-variants.{Load, Build, Call, Branch, Return, Stop}
 use Rattle.rules.specs.Base.{if_then_else_}
@@ -15,7 +17,7 @@ use Rattle.rules.specs.Tree.{made}
 use Rattle.rules.specs.Stacks.{slot, split, push}
 use Rattle.rules.specs.Machine.{_>>=_, Value, Frame, State, top, current}
 
--- "constructor and four arguments": an argument is a reference, the number of a cell
+-- "constructor and four arguments": an argument is a reference, the number of a constant or of a cell
 pub record Cell : Type 0 where
   pub constructor : ℕ
   pub arguments : List ℕ
@@ -38,17 +40,26 @@ pub record HeapState : Type 0 where
 abbrev pub heapState : Heap → List HeapFrame → HeapState
 heapState heap frames = record { heap = heap; frames = frames }
 
----- What a reference is: the one place that tells cells by their number
+---- What a reference is: the one place that tells constants and cells by their number
 
 abbrev pub cell : ℕ → List ℕ → Cell
 cell c refs = record { constructor = c; arguments = refs }
 
-abbrev pub cellAt : Heap → ℕ → Cell
-cellAt heap k = getD heap k (cell 0 [])
+-- "A constructor of arity 0 becomes the number of its constructor, 0 to 63; cells count from 64"
+abbrev pub isConstant : ℕ → Bool
+isConstant k = ltb k 64
 
--- "every build takes a cell": the heap with a constructor over these references, and the reference to it
+abbrev pub numberOf : ℕ → ℕ
+numberOf i = 64 + i
+
+-- what a number stands for: a constant as if it had a cell of its own, or a cell of the heap
+unfoldable pub cellAt : Heap → ℕ → Cell
+cellAt heap k = if isConstant k then cell k [] else getD heap (k - 64) (cell 0 [])
+
+-- the heap with a constructor over these references, and the reference to it
 abbrev pub allocated : Heap → ℕ → List ℕ → Heap × ℕ
-allocated heap c refs = (heap ++ (cell c refs ∷ []), length heap)
+allocated heap c [] = (heap, c)
+allocated heap c (k ∷ refs) = (heap ++ (cell c (k ∷ refs) ∷ []), numberOf (length heap))
 
 abbrev pub constructorOf : Heap → ℕ → ℕ
 constructorOf heap k = cellAt heap k .constructor
@@ -56,9 +67,9 @@ constructorOf heap k = cellAt heap k .constructor
 abbrev pub argumentsOf : Heap → ℕ → List ℕ
 argumentsOf heap k = cellAt heap k .arguments
 
--- a cell of this heap
+-- a constant, or a cell of this heap
 abbrev pub Refers : Heap → ℕ → Type 0
-Refers heap k = k < length heap
+Refers heap k = k < numberOf (length heap)
 
 ---- The state that it stands for
 
@@ -67,7 +78,7 @@ unfoldable pub valueIn : Heap → ℕ → ℕ → Value
 valueIn heap zero k = made 0 []
 valueIn heap (suc fuel) k = made (constructorOf heap k) (map (valueIn heap fuel) (argumentsOf heap k))
 
--- "a cell only ever names cells made before it", so k levels are below cell k
+-- "a cell only ever names cells made before it", so fewer than k levels are below the number k
 abbrev pub valueOf : Heap → ℕ → Value
 valueOf heap k = valueIn heap (suc k) k
 
@@ -143,7 +154,7 @@ module _ (s : Program) where
 
 ---- The start
 
--- "The arguments' cells are made from the last byte to the first": the cells, and the references to the values
+-- "The arguments' cells are made from the last byte to the first": the cells, constants skipped, and the references to the values
 unfoldable pub allocatedFor : Program → List ℕ → Heap × List ℕ
 allocatedFor s [] = ([], [])
 allocatedFor s (c ∷ bytes) =
@@ -157,13 +168,13 @@ heapStart s f bytes = heapState (allocatedFor s bytes .0) (entered f (allocatedF
 
 ---- In order
 
--- every stack of the frames refers to cells of the heap
+-- every stack of the frames refers to constants and cells of the heap
 abbrev pub FramesRefer : Heap → List HeapFrame → Type 0
 FramesRefer heap frames = All (λ fr. All (Refers heap) (fr .stack)) frames
 
--- "a cell only ever names cells made before it"
+-- "a cell only ever names cells made before it"; a constant names nothing
 abbrev pub NamesEarlier : Heap → Type 0
-NamesEarlier heap = (k : ℕ) → k < length heap → All (λ j. j < k) (argumentsOf heap k)
+NamesEarlier heap = (k : ℕ) → Refers heap k → All (λ j. j < k) (argumentsOf heap k)
 
 pub record Valid (h : HeapState) : Type 0 where
   pub earlier : NamesEarlier (h .heap)

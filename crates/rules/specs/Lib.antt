@@ -37,4 +37,5 @@ pub mod ArgumentRules
 pub mod PackingRules
 pub mod Promise
 pub mod Facts
+pub mod Constants
 pub mod WordRules

@@ -14,8 +14,8 @@ use Rattle.rules.specs.Check.{checked}
 use Rattle.rules.specs.Machine.{Value, Frame, State, start, current, step, after, resultOf}
 use Rattle.rules.specs.Values.{size, sizes, Has, Typed, boundAt}
 use Rattle.rules.specs.Prefix.{argumentsRight, values, written}
-use Rattle.rules.specs.Run.{Lent, Tables, usable, Ending, finished, aborted, refusedWith, Outcome, answer, heights, cellsTaken}
-use Rattle.rules.specs.Run.{refusalAt, run}
+use Rattle.rules.specs.Run.{Lent, Tables, CellRule, withArguments, usable, cellsTakenBy, cellsLoaded, Ending, finished, aborted}
+use Rattle.rules.specs.Run.{refusedWith, Outcome, answer, heights, refusalAt, run}
 
 ---- A state
 
@@ -53,18 +53,24 @@ module _ (s : Program) where
 
 ---- A run
 
--- the cells that the next step takes, and those that n steps from a state take: one for each build
+-- the cells that the next step takes by a rule, and those that n steps from a state take: one for each build that takes one
+abbrev pub takesBy : CellRule → Program → State → ℕ
+takesBy rule s [] = 0
+takesBy rule s (fr ∷ others) = cellsTakenBy rule s (current s fr)
+
 abbrev pub takes : Program → State → ℕ
-takes s [] = 0
-takes s (fr ∷ others) = cellsTaken (current s fr)
+takes = takesBy withArguments
 
 abbrev pub buildsFrom : (State → ℕ) → Option State → ℕ
 buildsFrom count none = 0
 buildsFrom count (some next) = count next
 
-unfoldable pub builds : Program → ℕ → State → ℕ
-builds s zero st = 0
-builds s (suc n) st = takes s st + buildsFrom (builds s n) (step s st)
+unfoldable pub buildsBy : CellRule → Program → ℕ → State → ℕ
+buildsBy rule s zero st = 0
+buildsBy rule s (suc n) st = takesBy rule s st + buildsFrom (buildsBy rule s n) (step s st)
+
+abbrev pub builds : Program → ℕ → State → ℕ
+builds = buildsBy withArguments
 
 -- the tables have room for a state with so many cells in use
 abbrev pub Room : Tables → State → ℕ → Type 0
@@ -107,11 +113,11 @@ pub data Answers (s : Program) (entry : ℕ) (arguments : List ℕ) (budget : �
       → a ≡ answer (refusedWith r) 0 → Answers s entry arguments budget lent a
   no-room : (f : Function) → function s entry ≡ some f → argumentsRight s f arguments ≡ passed
       → Typed s (values s arguments) (f .parameters)
-      → (number : ℕ) → NoRoom (usable lent) (start entry (values s arguments)) (length arguments) number
+      → (number : ℕ) → NoRoom (usable lent) (start entry (values s arguments)) (cellsLoaded s arguments) number
       → a ≡ answer (refusedWith (refusal number entry 1)) 0 → Answers s entry arguments budget lent a
   began : (f : Function) → function s entry ≡ some f → argumentsRight s f arguments ≡ passed → Typed s (values s arguments) (f .parameters)
       → Ran s f (boundAt (f .bound) (sizes s (values s arguments))) (usable lent) budget (lent .output) (start entry (values s arguments))
-      (length arguments) a
+      (cellsLoaded s arguments) a
       → Answers s entry arguments budget lent a
 
 ---- Both together

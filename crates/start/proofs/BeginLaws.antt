@@ -16,8 +16,7 @@ use Rattle.rules.specs.Program.{Function, Program}
 use Rattle.rules.specs.Machine.{Value, start}
 use Rattle.rules.specs.Prefix.{argumentsRight, values}
 use Rattle.rules.specs.Check.{checked}
-use Rattle.rules.specs.Run.{Lent, Tables, usable, refusedWith, answer, heights, fits, loaded}
-use Rattle.rules.specs.Run.{delivered, run}
+use Rattle.rules.specs.Run.{Lent, Tables, usable, refusedWith, answer, heights, fits, loaded, withArguments, delivered, run}
 use Rattle.rules.specs.Memory.{resultInto, begun, tableAfter}
 use Rattle.rules.specs.Answers.{refusalOf}
 use Rattle.rules.proofs.ListLaws.{all2-length}
@@ -76,14 +75,15 @@ module _ (file : List ℕ) (entry : ℕ) (arguments : List ℕ) (budget : ℕ) (
 
   pub not-checked : (reason : Reason) → checked file ≡ refused (refusalOf reason)
       → Runs file entry arguments budget cells stack frames out cells stack frames out (said (ends.Refused reason) 0)
-  not-checked reason e = not-begun reason (run-refused file entry arguments budget lent e) (begun-not-checked file entry arguments lent e)
+  not-checked reason e =
+      not-begun reason (run-refused withArguments file entry arguments budget lent e) (begun-not-checked file entry arguments lent e)
 
   module _ {s : Program} (e : checked file ≡ found s) where
     pub not-loaded : (reason : Reason) → loaded s (usable lent) entry arguments ≡ refused (refusalOf reason)
         → Runs file entry arguments budget cells stack frames out cells stack frames out (said (ends.Refused reason) 0)
     not-loaded reason w =
         not-begun reason
-        (run-checked file entry arguments budget lent e
-        ∙ ap (delivered (length out)) (started-refused s (usable lent) budget entry arguments w)
+        (run-checked withArguments file entry arguments budget lent e
+        ∙ ap (delivered (length out)) (started-refused withArguments s (usable lent) budget entry arguments w)
         ∙ deliver-refused (length out) 0 (refusalOf reason))
         (begun-not-loaded file entry arguments lent e w)

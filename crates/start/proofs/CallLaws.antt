@@ -18,7 +18,7 @@ use Rattle.rules.specs.Program.{function}
 use Rattle.rules.specs.Records.{functionOf, programOf, programIn, functionIn}
 use Rattle.rules.specs.Established.{Accepted, LaidOut}
 use Rattle.rules.specs.Prefix.{argumentsRight, values}
-use Rattle.rules.specs.Run.{usable}
+use Rattle.rules.specs.Run.{usable, cellsLoaded, withArguments}
 use Rattle.rules.specs.Answers.{toldCheck}
 use Rattle.rules.proofs.NumberedLaws.{numbered-past}
 use Rattle.rules.proofs.RunLaws.{load-no-entry, load-bad-arguments, load-no-room}
@@ -67,29 +67,31 @@ module _ {file index : List ℕ} {entry : ℕ} {arguments : List ℕ} (k : Calla
         → RefusedRun file entry arguments budget cells stack frames out (reason.OutOfFrames (first entry))
     out-of-frames h =
         not-loaded file entry arguments budget cells stack frames out (accepted-checked (k .accepted)) _
-        (load-no-room (programIn file) (usable (lentOf cells stack frames out)) entry arguments (k .f) (k .known) (k .right)
-        (no-frame (usable (lentOf cells stack frames out)) entry (values (programIn file) arguments) (length arguments) h))
+        (load-no-room withArguments (programIn file) (usable (lentOf cells stack frames out)) entry arguments (k .f) (k .known) (k .right)
+        (no-frame (usable (lentOf cells stack frames out)) entry (values (programIn file) arguments)
+        (cellsLoaded (programIn file) arguments) h))
 
     module _ (frame : 0 < min 65535 (length frames)) where
       pub out-of-stack : min 65535 (length stack) < length (k .f .parameters)
           → RefusedRun file entry arguments budget cells stack frames out (reason.OutOfStack (first entry))
       out-of-stack h =
           not-loaded file entry arguments budget cells stack frames out (accepted-checked (k .accepted)) _
-          (load-no-room (programIn file) (usable (lentOf cells stack frames out)) entry arguments (k .f) (k .known) (k .right)
-          (no-slots (usable (lentOf cells stack frames out)) entry (values (programIn file) arguments) (length arguments) frame
-          (omega (arith, vs-length))))
+          (load-no-room withArguments (programIn file) (usable (lentOf cells stack frames out)) entry arguments (k .f) (k .known) (k .right)
+          (no-slots (usable (lentOf cells stack frames out)) entry (values (programIn file) arguments)
+          (cellsLoaded (programIn file) arguments) frame (omega (arith, vs-length))))
 
-      pub out-of-cells : length (k .f .parameters) ≤ min 65535 (length stack) → min 65535 (length cells / 5) < length arguments
+      pub out-of-cells : length (k .f .parameters) ≤ min 65535 (length stack)
+          → min 65471 (length cells / 5) < cellsLoaded (programIn file) arguments
           → RefusedRun file entry arguments budget cells stack frames out (reason.OutOfCells (first entry))
       out-of-cells slots h =
           not-loaded file entry arguments budget cells stack frames out (accepted-checked (k .accepted)) _
-          (load-no-room (programIn file) (usable (lentOf cells stack frames out)) entry arguments (k .f) (k .known) (k .right)
-          (no-cells (usable (lentOf cells stack frames out)) entry (values (programIn file) arguments) (length arguments) frame
-          (omega (arith, vs-length)) h))
+          (load-no-room withArguments (programIn file) (usable (lentOf cells stack frames out)) entry arguments (k .f) (k .known) (k .right)
+          (no-cells (usable (lentOf cells stack frames out)) entry (values (programIn file) arguments)
+          (cellsLoaded (programIn file) arguments) frame (omega (arith, vs-length)) h))
 
   pub fitting : (budget : ℕ) (cells stack : List ℕ) (count : ℕ) {m : Limits} {n : ℕ} → budget < 4294967296
-      → (m .cells ≡ min 65535 (length cells / 5)) × (m .stack ≡ min 65535 (length stack)) × (m .frames ≡ min 65535 count)
-      → n ≡ functionArity index entry → 0 < m .frames → n ≤ m .stack → length arguments ≤ m .cells
+      → (m .cells ≡ min 65471 (length cells / 5)) × (m .stack ≡ min 65535 (length stack)) × (m .frames ≡ min 65535 count)
+      → n ≡ functionArity index entry → 0 < m .frames → n ≤ m .stack → cellsLoaded (programIn file) arguments ≤ m .cells
       → Fitting file index m entry n arguments budget cells stack count
   fitting budget cells stack count few (c, s, f) e frame slots room frames out l = record {
     callable = k;
@@ -123,15 +125,15 @@ module _ {file : List ℕ} (a : Accepted file) {header : Header} {heads : List �
     pub no-entry : header .functions ≤ entry → RefusedRun file entry arguments budget cells stack frames out (reason.NoEntry entry)
     no-entry h =
         not-loaded file entry arguments budget cells stack frames out (accepted-checked a) _
-        (load-no-entry (programIn file) (usable (lentOf cells stack frames out)) entry arguments (no-function laid h))
+        (load-no-entry withArguments (programIn file) (usable (lentOf cells stack frames out)) entry arguments (no-function laid h))
 
     pub bad-arguments : entry < header .functions → {head : ℕ} → head ≡ getD heads entry 0
         → {c : Checked} → toldCheck c ≡ argumentsRight (programIn file) (functionOf (payload file) head) arguments
         → (r : Reason) → c ≡ rule.Refused r → RefusedRun file entry arguments budget cells stack frames out r
     bad-arguments h {head} at says r e =
         not-loaded file entry arguments budget cells stack frames out (accepted-checked a) r
-        (load-bad-arguments (programIn file) (usable (lentOf cells stack frames out)) entry arguments (functionOf (payload file) head)
-        (known laid h at) (sym says ∙ ap toldCheck e))
+        (load-bad-arguments withArguments (programIn file) (usable (lentOf cells stack frames out)) entry arguments
+        (functionOf (payload file) head) (known laid h at) (sym says ∙ ap toldCheck e))
 
   pub callable : entry < header .functions → {head : ℕ} → head ≡ getD heads entry 0
       → {c : Checked} → toldCheck c ≡ argumentsRight (programIn file) (functionOf (payload file) head) arguments

@@ -1,19 +1,19 @@
 -- The arguments loaded: the pending references that are left are those to the values, one for each parameter, and go to the stack's bottom.
-use mathlib.Core.Path.{_≡_, sym, ap, _∙_}
+use mathlib.Core.Path.{_≡_, sym, ap, _∙_, subst}
 use mathlib.Core.List.{List}
-use Prim.Native.Nat.{ℕ, _+_, _-_, _/_, _≤_, min}
+use Prim.Native.Nat.{ℕ, _+_, _-_, _/_, _≤_, min, _<_}
 use native.Mathlib.Omega.{arith}
-use lib.ListN.{length, length-map}
+use lib.ListN.{length, getD}
 use lib.Dec.{leb}
-use borrow.Author.Tests.{leb-true}
-use Rattle.rules.specs.Heap.{allocatedFor, valueOf}
-use Rattle.rules.specs.Prefix.{argumentsRight}
-use Rattle.rules.specs.Program.{Program}
+use Rattle.rules.specs.Heap.{allocatedFor}
+use Rattle.rules.specs.Prefix.{argumentsRight, arity, readBytes}
+use Rattle.rules.specs.Program.{Program, Function}
 use Rattle.rules.specs.Records.{programIn}
-use Rattle.rules.specs.Run.{Tables}
-use Rattle.rules.proofs.HeapRun.{allocated-all}
+use Rattle.rules.specs.Run.{Tables, cellsLoaded}
+use Rattle.rules.specs.Base.{passed}
+use Rattle.rules.proofs.HeapRun.{references-length}
 use Rattle.rules.proofs.TriedLaws.{after-required}
-use Rattle.store.specs.Cells.{refs, RefsPut}
+use Rattle.store.specs.Cells.{refs, RefsPut, heapIn}
 use Rattle.store.specs.Limits.{LimitsOf}
 use Rattle.store.specs.declared.frames.Frame.{Frame}
 use Rattle.store.specs.declared.limits.Limits.{Limits}
@@ -22,31 +22,43 @@ use Rattle.store.proofs.LimitLaws.{limits-of}
 use Rattle.store.proofs.RefLaws.{length-refs, put-kept}
 use Rattle.fetch.proofs.IndexLaws.{constructor-read}
 use Rattle.arguments.specs.Loading as arguments
-use Rattle.start.specs.Begins.{Beginning, Loading, Loaded}
-use Rattle.start.proofs.BeginLaws.{values-length}
+use Rattle.start.specs.Begins.{Beginning, Loading, Loaded, Callable}
 use Rattle.start.proofs.CallLaws.{few-inputs}
 
-module _ {s : Program} {index bytes cells stack : List ℕ} {n : ℕ} (l : Loading s index bytes cells stack n) where
-  pub loading-arguments : arguments.Loading s index bytes
-  unfolding argumentsRight
-  loading-arguments = record {
-    pending = l .f .parameters;
-    right = after-required (leb (length bytes) 65535) _ _ (l .right) .1;
-    few = omega (arith, l .inputs, l .few);
-    indexed = l .indexed;
-  }
+pub bytes-right : (s : Program) (f : Function) (bytes : List ℕ) → argumentsRight s f bytes ≡ passed
+    → readBytes s 0 bytes (f .parameters) ≡ passed
+unfolding argumentsRight
+bytes-right s f bytes right = after-required (leb (length bytes) 65535) _ _ right .1
 
-  pub few-bytes : length bytes ≤ 65535
-  unfolding argumentsRight
-  few-bytes = leb-true (length bytes) 65535 (after-required (leb (length bytes) 65535) _ _ (l .right) .0)
+-- what the arguments' crate asks of bytes that are right for a function
+pub arguments-loading : {s : Program} {index bytes : List ℕ} (f : Function) → argumentsRight s f bytes ≡ passed → length (f .parameters) ≤ 4
+    → ((c : ℕ) → c < length (s .constructors) → (c < 64) × (getD index c 0 ≡ arity s c) × (arity s c ≤ 4))
+    → arguments.Loading s index bytes
+arguments-loading {s} {bytes = bytes} f right few indexed = record {
+  pending = f .parameters;
+  right = bytes-right s f bytes right;
+  few = omega (arith, few);
+  indexed = indexed;
+}
+
+pub callable-loading : {file index : List ℕ} {entry : ℕ} {bytes : List ℕ} → Callable file index entry bytes
+    → arguments.Loading (programIn file) index bytes
+callable-loading {file} {index} k =
+    arguments-loading (k .f) (k .right) (few-inputs k) (constructor-read file index (k .indexed))
+
+module _ {s : Program} {index bytes cells stack : List ℕ} {n : ℕ} (l : Loading s index bytes cells stack n) where
+  pub loading-arguments : arguments.Roomy s index bytes cells
+  loading-arguments = record {
+    loading = arguments-loading (l .f) (l .right) (omega (arith, l .inputs, l .few)) (l .indexed);
+    room = l .room;
+    few = l .few-cells;
+  }
 
   -- as many references as parameters
   references : length (allocatedFor s bytes .1) ≡ n
-  references =
-      sym (length-map (allocatedFor s bytes .1) (valueOf (allocatedFor s bytes .0))) ∙ ap length (allocated-all s bytes .stand)
-      ∙ values-length s (l .f) bytes (l .right) ∙ sym (l .inputs)
+  references = references-length s 0 bytes (l .f .parameters) (bytes-right s (l .f) bytes (l .right)) ∙ sym (l .inputs)
 
-  module _ {cells′ numbers : List ℕ} {at : ℕ} (h : arguments.MadeFor s bytes cells cells′ numbers at) where
+  module _ {cells′ numbers : List ℕ} {at used : ℕ} (h : arguments.MadeFor s bytes cells cells′ numbers at used) where
     pub pending-end : at + n ≡ 256
     pending-end = omega (arith, length-refs numbers at (256 - at), ap length (h .values), references, h .low)
 
@@ -55,9 +67,9 @@ module _ {s : Program} {index bytes cells stack : List ℕ} {n : ℕ} (l : Loadi
         let few : 256 - at ≡ n = omega (arith, pending-end) in
         let long = length-refs numbers at n in
         record {
-          heap = h .heap;
+          heap = subst (λ (k : ℕ). heapIn (arity s) cells′ k ≡ allocatedFor s bytes .0) (h .taken) (h .heap);
           values = rw long at (p .put) ∙ ap (refs numbers at) (sym few) ∙ h .values;
-          known = h .known;
+          known = λ k b. h .known k (omega (arith, b, h .taken));
           kept-cells = h .kept;
           kept-stack = put-kept 0 (refs numbers at n) stack stack′ p n (omega (arith, long));
         }
@@ -66,7 +78,7 @@ module _ {s : Program} {index bytes cells stack : List ℕ} {n : ℕ} (l : Loadi
 
 module _ {file index : List ℕ} {m : Limits} {entry n : ℕ} {arguments : List ℕ} {budget : ℕ} {cells stack : List ℕ} {frames : List Frame}
     {out : List ℕ} (b : Beginning file index m entry n arguments budget cells stack frames out) where
-  pub cells-are : m .cells ≡ min 65535 (length cells / 5)
+  pub cells-are : m .cells ≡ min 65471 (length cells / 5)
   cells-are = ap (λ (t : Tables). t .cells) (b .limited)
 
   pub stack-is : m .stack ≡ min 65535 (length stack)
@@ -86,5 +98,6 @@ module _ {file index : List ℕ} {m : Limits} {entry n : ℕ} {arguments : List 
     inputs = b .inputs;
     few = omega (arith, b .inputs, few-inputs (b .callable));
     slots = omega (arith, b .slots, limits .stack-room);
-    room = room-less cells (m .cells) (length arguments) (limits .cell-room) (b .room);
+    room = room-less cells (m .cells) (cellsLoaded (programIn file) arguments) (limits .cell-room) (b .room);
+    few-cells = omega (arith, b .room, limits .few-cells);
   }

@@ -10,6 +10,7 @@ use Rattle.rules.specs.declared.answers.Reason.{Reason}
 use Rattle.rules.specs.declared.answers.Ending.the-variants as ends
 use Rattle.rules.specs.Lists.{Bytes}
 use Rattle.rules.specs.Records.{programIn}
+use Rattle.rules.specs.Run.{cellsLoaded}
 use Rattle.store.specs.Frames.{noFrame}
 use Rattle.store.specs.declared.frames.Frame.{Frame}
 use Rattle.store.specs.declared.limits.Limits.{Limits}
@@ -45,7 +46,7 @@ module _ {file index : List ℕ} {m : Limits} {entry n : ℕ} {arguments : List 
     {cells′ stack′ : List ℕ} {t : Registers} {b : Begin} where
   pub begun-prepares : (b .begun ≡ true) × (b .index ≡ index) × (b .limits ≡ m) × (b .start ≡ t) → Bytes file
       → Fitting file index m entry n arguments budget cells stack count → Loaded (programIn file) arguments n cells stack cells′ stack′
-      → t ≡ first entry (codeAt index entry) n (length arguments) budget
+      → t ≡ first entry (codeAt index entry) n (cellsLoaded (programIn file) arguments) budget
       → Prepares file entry arguments budget cells stack count cells′ stack′ b
   begun-prepares (has-begun, index-is, limits-are, start-is) small fits on at = record {
     begins = λ _. record {

@@ -11,7 +11,7 @@ use Rattle.rules.specs.Heap.{allocatedFor}
 use Rattle.rules.specs.Lists.{Bytes}
 use Rattle.rules.specs.Program.{Function, Program, function}
 use Rattle.rules.specs.Prefix.{arity, argumentsRight}
-use Rattle.rules.specs.Run.{usable}
+use Rattle.rules.specs.Run.{usable, cellsLoaded}
 use Rattle.rules.specs.Established.{Accepted}
 use Rattle.store.specs.Cells.{refs, constructorIn, CellRoom, heapIn, KeptFrom, CellsKept}
 use Rattle.store.specs.Limits.{tables}
@@ -39,7 +39,7 @@ pub record Beginning (file index : List ℕ) (m : Limits) (entry n : ℕ) (argum
   pub inputs : n ≡ length (callable .f .parameters)
   pub frame : 0 < m .frames
   pub slots : n ≤ m .stack
-  pub room : length arguments ≤ m .cells
+  pub room : cellsLoaded (programIn file) arguments ≤ m .cells
 
 -- whatever table of so many frames is lent
 abbrev pub Fitting : List ℕ → List ℕ → Limits → ℕ → ℕ → List ℕ → ℕ → List ℕ → List ℕ → ℕ → Type 0
@@ -54,7 +54,8 @@ pub record Loading (s : Program) (index arguments cells stack : List ℕ) (n : �
   pub inputs : n ≡ length (f .parameters)
   pub few : n ≤ 4
   pub slots : n ≤ length stack
-  pub room : CellRoom cells (length arguments)
+  pub room : CellRoom cells (cellsLoaded s arguments)
+  pub few-cells : cellsLoaded s arguments ≤ 65471
 
 -- the registers of a function's first frame, with its code at a place, n arguments on the stack and so many cells in use
 abbrev pub first : ℕ → ℕ → ℕ → ℕ → ℕ → Registers
@@ -73,10 +74,10 @@ first entry code n used budget = record {
 
 -- the arguments' cells are made, and the references to their values stand at the stack's bottom
 pub record Loaded (s : Program) (arguments : List ℕ) (n : ℕ) (cells stack cells′ stack′ : List ℕ) : Type 0 where
-  pub heap : heapIn (arity s) cells′ (length arguments) ≡ allocatedFor s arguments .0
+  pub heap : heapIn (arity s) cells′ (cellsLoaded s arguments) ≡ allocatedFor s arguments .0
   pub values : refs stack′ 0 n ≡ allocatedFor s arguments .1
-  pub known : (k : ℕ) → k < length arguments → constructorIn cells′ k < length (s .constructors)
-  pub kept-cells : CellsKept (length arguments) cells cells′
+  pub known : (k : ℕ) → k < cellsLoaded s arguments → constructorIn cells′ k < length (s .constructors)
+  pub kept-cells : CellsKept (cellsLoaded s arguments) cells cells′
   pub kept-stack : KeptFrom n stack stack′
 
 -- a run that has begun, on loaded tables
@@ -86,7 +87,7 @@ pub record Prepared (file : List ℕ) (entry : ℕ) (arguments : List ℕ) (budg
   pub small : Bytes file
   pub fitting : Fitting file (b .index) (b .limits) entry arity arguments budget cells stack count
   pub loaded : Loaded (programIn file) arguments arity cells stack cells′ stack′
-  pub at-first : b .start ≡ first entry (codeAt (b .index) entry) arity (length arguments) budget
+  pub at-first : b .start ≡ first entry (codeAt (b .index) entry) arity (cellsLoaded (programIn file) arguments) budget
 
 -- it has begun, or the refusal is the run's answer, whatever else is lent
 pub record Prepares (file : List ℕ) (entry : ℕ) (arguments : List ℕ) (budget : ℕ) (cells stack : List ℕ) (count : ℕ)

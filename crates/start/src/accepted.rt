@@ -41,7 +41,7 @@ fn begin_called(
     if m.stack < arity {
         return not_begun(Reason::OutOfStack(place));
     }
-    if m.cells < arguments.len() {
+    if !arguments::enough(&index, arguments, m.cells) {
         return not_begun(Reason::OutOfCells(place));
     }
     let start = load(&index, arguments, cells, stack, entry, arity, budget);

@@ -2,8 +2,8 @@
 ghost use mathlib.Core.Path.{_≡_};
 ghost use mathlib.Core.Bool.{true, false};
 ghost use Prim.Native.Nat.{_<_};
-ghost use lib.ListN.{length};
 ghost use Rattle.rules.specs.Program.{Program};
+ghost use Rattle.rules.specs.Run.{cellsLoaded};
 ghost use Rattle.rules.specs.declared.answers.Ending.the-variants as ends;
 ghost use Rattle.fetch.specs.Indexed.{codeAt};
 ghost use Rattle.start.specs.Begins.{Loading, Loaded, first};
@@ -82,7 +82,9 @@ pub fn load(
 ) -> Registers
     requires { ⌜ ((s : Program) × Loading s (now index) (now arguments) (now cells) (now stack) arity) ⌝ }
     requires { ⌜ entry < 32 ⌝ }
-    ensures { λ r. ⌜ r ≡ first entry (codeAt (now (index .entry)) entry) arity (length (now (arguments .entry))) budget ⌝ }
+    ensures { λ r. ⌜ ((s : Program)
+        → Loading s (now (index .entry)) (now (arguments .entry)) (now (cells .entry)) (now (stack .entry)) arity
+        → r ≡ first entry (codeAt (now (index .entry)) entry) arity (cellsLoaded s (now (arguments .entry))) budget) ⌝ }
     ensures { λ _. ⌜ ((s : Program)
         → Loading s (now (index .entry)) (now (arguments .entry)) (now (cells .entry)) (now (stack .entry)) arity
         → Loaded s (now (arguments .entry)) arity (now (cells .entry)) (now (stack .entry)) (now (cells .exit)) (now (stack .exit))) ⌝ }
@@ -98,7 +100,7 @@ pub fn load(
         at: code,
         base: 0,
         top: arity,
-        used: arguments.len(),
+        used: pending.used,
         depth: 0,
         left: budget,
         callee: 0,

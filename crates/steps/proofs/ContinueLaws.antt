@@ -117,13 +117,13 @@ module _ (s : Program) (heap : Heap) (fr : HeapFrame) (others : List HeapFrame) 
   not-ended n = rw (no-result others n)
 
 -- where the machine over values has a step, the one over cells has it too
-pub step-there : (s : Program) (h : HeapState) → Valid h → {next : State} → step s (stateOf h) ≡ some next → (h′ : HeapState)
-    × (heapStep s h ≡ some h′) × (stateOf h′ ≡ next)
-step-there s h ok {next} e = go (heapStep s h) refl
+pub step-there : (s : Program) → length (s .constructors) ≤ 64 → (h : HeapState) → Valid h → {next : State}
+    → step s (stateOf h) ≡ some next → (h′ : HeapState) × (heapStep s h ≡ some h′) × (stateOf h′ ≡ next)
+step-there s few h ok {next} e = go (heapStep s h) refl
   where
     go : (o : Option HeapState) → heapStep s h ≡ o → (h′ : HeapState) × (heapStep s h ≡ some h′) × (stateOf h′ ≡ next)
-    go none q = none-some (sym (heap-step s h ok ∙ ap (optionMap stateOf) q) ∙ e)
-    go (some h′) q = (h′, q, some-inj (sym (heap-step s h ok ∙ ap (optionMap stateOf) q) ∙ e))
+    go none q = none-some (sym (heap-step s few h ok ∙ ap (optionMap stateOf) q) ∙ e)
+    go (some h′) q = (h′, q, some-inj (sym (heap-step s few h ok ∙ ap (optionMap stateOf) q) ∙ e))
 
 ---- What an instruction does, once what it needs is there
 

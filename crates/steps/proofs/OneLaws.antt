@@ -1,19 +1,19 @@
 -- One step of the top frame: what is fetched, and what each operation comes to.
-use Prim.Native.Nat.{ℕ, _+_, _/_, _%_, _≤_, _<_}
+use Prim.Native.Nat.{ℕ, _+_, _/_, _%_, _≤_, _<_, _-_}
 use mathlib.Core.Path.{_≡_, refl, ap, _∙_}
 use mathlib.Core.List.{List, map}
 use mathlib.Core.Option.{some}
-use mathlib.Core.Bool.{true}
+use mathlib.Core.Bool.{true, false}
 use native.Mathlib.Omega.{arith}
-use lib.ListN.{length}
+use lib.ListN.{length, set}
 use Rattle.rules.specs.Container.{payload}
 use Rattle.rules.specs.Established.{Verified}
-use Rattle.rules.specs.Heap.{frameOf}
+use Rattle.rules.specs.Heap.{frameOf, numberOf, isConstant}
 use Rattle.rules.specs.Machine.{current}
 use Rattle.rules.specs.Records.{programIn, instructionAt, operation, instructionOf, isSome}
 use Rattle.rules.specs.declared.records.Instruction.{Instruction}
 use Rattle.rules.specs.declared.records.Instruction.the-variants.{Load, Build, Call, Branch, Return, Stop}
-use Rattle.store.specs.Cells.{constructorIn, KeptFrom}
+use Rattle.store.specs.Cells.{KeptFrom, labelIn, cellOf}
 use Rattle.store.specs.declared.frames.Frame.{Frame}
 use Rattle.store.specs.declared.limits.Limits.{Limits}
 use Rattle.store.proofs.RefLaws.{put-one, put-kept, kept-refl}
@@ -26,8 +26,8 @@ use Rattle.fetch.specs.Words.{WordThere}
 use Rattle.fetch.proofs.IndexLaws.{in-range, constructor-read}
 use Rattle.fetch.proofs.InstructionLaws.{instruction-there, word-load, word-build, word-call, word-branch, word-return, word-stop}
 use Rattle.steps.specs.Stands.{topOn, waitingOn, stateIn, Standing, Spared}
-use Rattle.steps.specs.Steps.{restingAt, resting, topCell, Loads, load-full, load-goes, Builds, build-full, build-short, build-goes}
-use Rattle.steps.specs.Steps.{Branches, branch-passes, branch-full, branch-takes, Stepped}
+use Rattle.steps.specs.Steps.{restingAt, resting, topReference, Loads, load-full, load-goes, Builds, build-full, build-constant}
+use Rattle.steps.specs.Steps.{build-short, build-goes, branch-constant, Branches, branch-passes, branch-full, branch-takes, Stepped}
 use Rattle.steps.specs.Pauses.{Ready}
 use Rattle.steps.specs.declared.state.Registers.{Registers}
 use Rattle.steps.proofs.StandLaws.{sound-current, current-first}
@@ -158,36 +158,43 @@ module _ (file index : List ℕ) (m : Limits) (cells stack : List ℕ) (r : Regi
       same : {cells′ stack′ : List ℕ} {t : Registers}
           → Builds m cells stack r next (w / 256 % 256) (constructorArity index (w / 256 % 256)) cells′ stack′ t → t .left ≡ r .left
       same (build-full f) = refl
-      same (build-short f g) = refl
-      same (build-goes f g p) = refl
+      same (build-constant f z) = refl
+      same (build-short f z g) = refl
+      same (build-goes f z g p) = refl
+
+      put : (number : ℕ) → r .top - constructorArity index (w / 256 % 256) < m .stack
+          → KeptFrom (m .stack) stack (set stack (r .top - constructorArity index (w / 256 % 256)) number)
+      put number f =
+          put-kept _ _ stack _ (put-one stack _ number (omega (arith, f, ready .lent .stack-room))) (m .stack) (omega arith)
 
       kept : {cells′ stack′ : List ℕ} {t : Registers}
           → Builds m cells stack r next (w / 256 % 256) (constructorArity index (w / 256 % 256)) cells′ stack′ t
           → Spared m cells stack cells′ stack′
       kept (build-full f) = spared-none m cells stack
-      kept (build-short f g) = spared-none m cells stack
-      kept (build-goes f g p) = record {
+      kept (build-constant f z) = record { of-cells = cells-kept-refl (m .cells) cells; of-stack = put a f }
+      kept (build-short f z g) = spared-none m cells stack
+      kept (build-goes f z g p) = record {
         of-cells = cell-put-kept (r .used) a _ cells _ p (m .cells) g;
-        of-stack = put-kept _ _ stack _ (put-one stack _ (r .used) (omega (arith, ready .lent .stack-room))) (m .stack) (omega arith);
+        of-stack = put (numberOf (r .used)) f;
       }
 
   ---- Branch
 
-  pub branch-ready : w % 256 ≡ 4 → (0 < r .top) × (topCell stack r < m .cells)
+  pub branch-ready : w % 256 ≡ 4 → (0 < r .top) × (topReference stack r < numberOf (m .cells))
   branch-ready e =
       let cur = at-branch file index (ready .indexed) m cells stack r i ws ok word e in (
         omega (arith, branch-deep file m cells stack r i ws ok a (w / 65536) cur),
         omega (arith, branch-old file m cells stack r i ws ok a (w / 65536) cur, ok .laid .taken),
       )
 
-  pub branch-ready-same : w % 256 ≡ 4 → constructorIn cells (topCell stack r) ≡ w / 256 % 256
-      → (w / 256 % 256 < 64) × (constructorArity index (w / 256 % 256) ≤ 4)
-  branch-ready-same e y =
+  pub branch-ready-same : w % 256 ≡ 4 → labelIn cells (topReference stack r) ≡ w / 256 % 256
+      → isConstant (topReference stack r) ≡ false → (w / 256 % 256 < 64) × (constructorArity index (w / 256 % 256) ≤ 4)
+  branch-ready-same e y z =
       let cur = at-branch file index (ready .indexed) m cells stack r i ws ok word e in
-      let x = constructor-read file index (ready .indexed) a (branch-known file m cells stack r i ws ok a (w / 65536) cur y) in
+      let x = constructor-read file index (ready .indexed) a (branch-known file m cells stack r i ws ok a (w / 65536) cur y z) in
       (x .0, omega (arith, x .1, x .2))
 
-  pub branch-ready-other : w % 256 ≡ 4 → (constructorIn cells (topCell stack r) ≡ w / 256 % 256 → ⊥)
+  pub branch-ready-other : w % 256 ≡ 4 → (labelIn cells (topReference stack r) ≡ w / 256 % 256 → ⊥)
       → (0 < w / 65536) × (w / 65536 ≤ 256) × Inside (r .code) × (r .code ≤ 33000)
   branch-ready-other e n =
       let cur = at-branch file index (ready .indexed) m cells stack r i ws ok word e in
@@ -205,26 +212,28 @@ module _ (file index : List ℕ) (m : Limits) (cells stack : List ℕ) (r : Regi
       same : {stack′ : List ℕ} {t : Registers}
           → Branches m cells stack r next (w / 256 % 256) (w / 65536) (constructorArity index (w / 256 % 256)) stack′ t → t .left ≡ r .left
       same (branch-passes n p q) = refl
-      same (branch-full y f) = refl
-      same (branch-takes y f p) = refl
+      same (branch-constant y z) = refl
+      same (branch-full y z f) = refl
+      same (branch-takes y z f p) = refl
 
       kept : {stack′ : List ℕ} {t : Registers}
           → Branches m cells stack r next (w / 256 % 256) (w / 65536) (constructorArity index (w / 256 % 256)) stack′ t
           → KeptFrom (m .stack) stack stack′
       kept (branch-passes n p q) = kept-refl (m .stack) stack
-      kept (branch-full y f) = kept-refl (m .stack) stack
-      kept (branch-takes y f p) = put-kept _ _ stack _ p (m .stack)
-          (omega (arith, arguments-length cells (topCell stack r) (constructorArity index (w / 256 % 256))))
+      kept (branch-constant y z) = kept-refl (m .stack) stack
+      kept (branch-full y z f) = kept-refl (m .stack) stack
+      kept (branch-takes y z f p) = put-kept _ _ stack _ p (m .stack)
+          (omega (arith, arguments-length cells (cellOf (topReference stack r)) (constructorArity index (w / 256 % 256))))
 
       cur : (j : ℕ) (vs : List Frame) → Standing file m cells stack r j vs
           → current (programIn file) (place (r .function) j) ≡ some (Branch (w / 256 % 256) (w / 65536))
       cur j vs on = at-branch file index (ready .indexed) m cells stack r j vs on word e
 
-      is : constructorIn cells (topCell stack r) ≡ w / 256 % 256
+      is : labelIn cells (topReference stack r) ≡ w / 256 % 256 → isConstant (topReference stack r) ≡ false
           → constructorArity index (w / 256 % 256) ≡ arity (programIn file) (w / 256 % 256)
-      is y = constructor-read file index (ready .indexed) a (branch-known file m cells stack r i ws ok a (w / 65536) (cur i ws ok) y) .1
+      is y z = constructor-read file index (ready .indexed) a (branch-known file m cells stack r i ws ok a (w / 65536) (cur i ws ok) y z) .1
 
-      low : (constructorIn cells (topCell stack r) ≡ w / 256 % 256 → ⊥) → 0 < w / 65536
+      low : (labelIn cells (topReference stack r) ≡ w / 256 % 256 → ⊥) → 0 < w / 65536
       low n = branch-ready-other e n .0
 
       one-of : {stack′ : List ℕ} {t : Registers}
@@ -234,14 +243,17 @@ module _ (file index : List ℕ) (m : Limits) (cells stack : List ℕ) (r : Regi
       one-of (branch-passes n p q) budget j vs fits on =
           branch-comes file m cells stack r j vs on a (w / 65536) (cur j vs on) budget fits left (ready .going) next behind near low
           (arity (programIn file) a) refl (branch-passes n p q)
-      one-of (branch-full y f) budget j vs fits on =
+      one-of (branch-constant y z) budget j vs fits on =
+          branch-comes file m cells stack r j vs on a (w / 65536) (cur j vs on) budget fits left (ready .going) next behind near low
+          (arity (programIn file) a) refl (branch-constant y z)
+      one-of (branch-full y z f) budget j vs fits on =
           branch-comes file m cells stack r j vs on a (w / 65536) (cur j vs on) budget fits left (ready .going) next behind near low _
-          (is y)
-          (branch-full y f)
-      one-of (branch-takes y f p) budget j vs fits on =
+          (is y z)
+          (branch-full y z f)
+      one-of (branch-takes y z f p) budget j vs fits on =
           branch-comes file m cells stack r j vs on a (w / 65536) (cur j vs on) budget fits left (ready .going) next behind near low _
-          (is y)
-          (branch-takes y f p)
+          (is y z)
+          (branch-takes y z f p)
 
   ---- Call, return and stop: the frame rests
 

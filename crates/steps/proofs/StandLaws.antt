@@ -99,12 +99,12 @@ module _ (file : List ℕ) (m : Limits) (cells stack : List ℕ) (r : Registers)
   pub lives : endOn (programIn file) (here .heap) (here .frames) ≡ none → (next : HeapState) × (heapStep (programIn file) here ≡ some next)
   lives e =
       let x = ok .sound .safe 0 (stateOf here) (after-none s (stateOf here)) (end-alike s (here .heap) (here .frames) ∙ e) in
-      let y = step-there s here (ok .valid) (x .1) in
+      let y = step-there s (ok .few) here (ok .valid) (x .1) in
       (y .0, y .1)
 
   -- what is behind a step is sound
   pub sound-next : (next : HeapState) → heapStep (programIn file) here ≡ some next → SoundFrom (programIn file) (stateOf next)
-  sound-next next e = sound-later s (stateOf here) (heap-step s here (ok .valid) ∙ ap (optionMap stateOf) e) (ok .sound)
+  sound-next next e = sound-later s (stateOf here) (heap-step s (ok .few) here (ok .valid) ∙ ap (optionMap stateOf) e) (ok .sound)
 
   -- where the next state has one frame or more, its top frame has an instruction
   pub current-next : {heap : Heap} {fr : HeapFrame} {others : List HeapFrame} → heapStep (programIn file) here ≡ some

@@ -62,8 +62,9 @@ module _ (file : List ℕ) (m : Limits) (budget : ℕ) (cells stack : List ℕ) 
       → r .left ≡ suc (t .left) → LeadsTo file m budget cells stack r i ws cells′ stack′ t i′ ws′
   took cells′ stack′ t i′ ws′ ends e laid one = record {
     standing = record {
+      few = ok .few;
       laid = laid;
-      valid = heap-grows s here next (ok .valid) e .valid;
+      valid = heap-grows s (ok .few) here next (ok .valid) e .valid;
       sound = sound-next file m cells stack r i ws ok next e;
     };
     fewer = omega arith;
@@ -84,6 +85,7 @@ module _ (file : List ℕ) (m : Limits) (budget : ℕ) (cells stack : List ℕ) 
   pub halted : (g why : ℕ) → LeadsTo file m budget cells stack r i ws cells stack (restingAt r g why) i ws
   halted g why = record {
     standing = record {
+      few = ok .few;
       laid = record {
         code = ok .laid .code;
         code-near = ok .laid .code-near;

@@ -52,7 +52,7 @@ pub record SoundFrom (s : Program) (st : State) : Type 0 where
 -- the tables that the top frame works on have room for the limits
 pub record Lent (m : Limits) (cells stack : List ℕ) : Type 0 where
   pub cell-room : CellRoom cells (m .cells)
-  pub few-cells : m .cells ≤ 65535
+  pub few-cells : m .cells ≤ 65471
   pub stack-room : m .stack ≤ length stack
   pub few-places : m .stack ≤ 65535
 
@@ -72,6 +72,7 @@ pub record Laid (file : List ℕ) (m : Limits) (cells : List ℕ) (r : Registers
 
 -- the run's invariant
 pub record Standing (file : List ℕ) (m : Limits) (cells stack : List ℕ) (r : Registers) (i : ℕ) (ws : List Frame) : Type 0 where
+  pub few : length (programIn file .constructors) ≤ 64
   pub laid : Laid file m cells r i ws
   pub valid : Valid (stateIn (programIn file) cells stack r i ws)
   pub sound : SoundFrom (programIn file) (stateOf (stateIn (programIn file) cells stack r i ws))

@@ -1,15 +1,17 @@
 -- What the step functions do to registers and tables.
 use mathlib.Core.Path.{_≡_}
 use mathlib.Core.List.{List}
+use mathlib.Core.Bool.{true, false}
 use mathlib.Core.Option.{some}
 use Prim.Native.Nat.{ℕ, _+_, _-_, _≤_, _<_}
 use lib.ListN.{length, getD, set}
 use Rattle.rules.specs.Base.{refusal}
+use Rattle.rules.specs.Heap.{isConstant, numberOf}
 use Rattle.rules.specs.Machine.{current}
 use Rattle.rules.specs.Records.{programIn}
 use Rattle.rules.specs.Run.{answer, refusedWith}
 use Rattle.rules.specs.declared.records.Instruction.the-variants.{Call, Return, Stop}
-use Rattle.store.specs.Cells.{refs, constructorIn, argumentsIn, RefsPut, CellPut}
+use Rattle.store.specs.Cells.{refs, argumentsIn, cellOf, labelIn, RefsPut, CellPut}
 use Rattle.store.specs.declared.frames.Frame.{Frame}
 use Rattle.store.specs.declared.limits.Limits.{Limits}
 use Rattle.fetch.specs.Arities.{place}
@@ -92,21 +94,26 @@ pub data Loads (m : Limits) (stack : List ℕ) (r : Registers) (next a : ℕ) : 
 
 pub data Builds (m : Limits) (cells stack : List ℕ) (r : Registers) (next c n : ℕ) : List ℕ → List ℕ → Registers → Type 0 where
   build-full : m .stack ≤ r .top - n → Builds m cells stack r next c n cells stack (resting r 16)
-  build-short : r .top - n < m .stack → m .cells ≤ r .used → Builds m cells stack r next c n cells stack (resting r 15)
-  build-goes : {cells′ : List ℕ} → r .top - n < m .stack → r .used < m .cells → CellPut (r .used) c (refs stack (r .top - n) n) cells cells′
-      → Builds m cells stack r next c n cells′ (set stack (r .top - n) (r .used)) (movedOver r next (r .top - n + 1))
+  build-constant : r .top - n < m .stack → n ≡ 0
+      → Builds m cells stack r next c n cells (set stack (r .top - n) c) (moved r next (r .top - n + 1))
+  build-short : r .top - n < m .stack → (n ≡ 0 → ⊥) → m .cells ≤ r .used → Builds m cells stack r next c n cells stack (resting r 15)
+  build-goes : {cells′ : List ℕ} → r .top - n < m .stack → (n ≡ 0 → ⊥) → r .used < m .cells
+      → CellPut (r .used) c (refs stack (r .top - n) n) cells cells′
+      → Builds m cells stack r next c n cells′ (set stack (r .top - n) (numberOf (r .used))) (movedOver r next (r .top - n + 1))
 
--- the cell of the top value
-abbrev pub topCell : List ℕ → Registers → ℕ
-topCell stack r = getD stack (r .top - 1) 0
+-- the reference to the top value
+abbrev pub topReference : List ℕ → Registers → ℕ
+topReference stack r = getD stack (r .top - 1) 0
 
 pub data Branches (m : Limits) (cells stack : List ℕ) (r : Registers) (next c b n : ℕ) : List ℕ → Registers → Type 0 where
-  branch-passes : {at : ℕ} → (constructorIn cells (topCell stack r) ≡ c → ⊥) → Behind (r .code) (b - 1) at → at ≤ 40000
+  branch-passes : {at : ℕ} → (labelIn cells (topReference stack r) ≡ c → ⊥) → Behind (r .code) (b - 1) at → at ≤ 40000
       → Branches m cells stack r next c b n stack (moved r at (r .top))
-  branch-full : constructorIn cells (topCell stack r) ≡ c → m .stack < r .top - 1 + n → Branches m cells stack r next c b n stack
-      (resting r 16)
-  branch-takes : {stack′ : List ℕ} → constructorIn cells (topCell stack r) ≡ c → r .top - 1 + n ≤ m .stack
-      → RefsPut (r .top - 1) (argumentsIn cells (topCell stack r) n) stack stack′
+  branch-constant : labelIn cells (topReference stack r) ≡ c → isConstant (topReference stack r) ≡ true
+      → Branches m cells stack r next c b n stack (moved r next (r .top - 1))
+  branch-full : labelIn cells (topReference stack r) ≡ c → isConstant (topReference stack r) ≡ false → m .stack < r .top - 1 + n
+      → Branches m cells stack r next c b n stack (resting r 16)
+  branch-takes : {stack′ : List ℕ} → labelIn cells (topReference stack r) ≡ c → isConstant (topReference stack r) ≡ false
+      → r .top - 1 + n ≤ m .stack → RefsPut (r .top - 1) (argumentsIn cells (cellOf (topReference stack r)) n) stack stack′
       → Branches m cells stack r next c b n stack′ (moved r next (r .top - 1 + n))
 
 ---- Why a frame rests: 0 it goes on, 1 it calls, 2 it returns, 3 it has the result, 4 it stops, and 14 to 17 as document 01 numbers them

@@ -14,13 +14,15 @@ use fetch::place_behind;
 use store::Limits;
 use store::wide16;
 ghost use mathlib.Core.Path.{_≡_};
+ghost use mathlib.Core.Bool.{false};
 ghost use Prim.Native.Nat.{_+_, _≤_, _<_};
 ghost use lib.ListN.{length};
-ghost use Rattle.store.specs.Cells.{constructorIn};
+ghost use Rattle.rules.specs.Heap.{isConstant, numberOf};
+ghost use Rattle.store.specs.Cells.{labelIn};
 ghost use Rattle.fetch.specs.Indexed.{constructorArity};
 ghost use Rattle.fetch.specs.Places.{Inside};
 ghost use Rattle.steps.specs.Stands.{Lent};
-ghost use Rattle.steps.specs.Steps.{moved, calling, topCell, Loads, Builds, Branches, Stepped};
+ghost use Rattle.steps.specs.Steps.{moved, calling, topReference, Loads, Builds, Branches, Stepped};
 ghost use Rattle.steps.specs.Pauses.{Ready, Pauses};
 
 // The frame goes on at another place, with another top of its stack.
@@ -46,7 +48,7 @@ fn load(stack: &mut [u16], m: Limits, r: Registers, next: usize, a: usize) -> Re
     went(r, next, top + 1)
 }
 
-// Build: constructor c takes the place of the top values that are its arguments.
+// Build: constructor c takes the place of the top values that are its arguments. A constant takes no cell.
 fn build(
     index: &[u32; 128],
     cells: &mut [u16],
@@ -67,11 +69,14 @@ fn build(
     if from >= m.stack {
         return paused(r, NO_STACK);
     }
+    if n == 0 {
+        stack[from] = c as u16;
+        return went(r, next, from + 1);
+    }
     if used >= m.cells {
         return paused(r, NO_CELLS);
     }
-    store::put_cell(cells, used, c as u16, stack, from, n);
-    stack[from] = used as u16;
+    stack[from] = store::put_cell(cells, used, c as u16, stack, from, n);
     let mut t = went(r, next, from + 1);
     t.used = used + 1;
     t
@@ -88,9 +93,11 @@ fn branch(
     c: usize,
     b: usize,
 ) -> Registers
-    requires { ⌜ Lent m (now cells) (now stack) × (0 < r .top) × (r .top ≤ m .stack) × (topCell (now stack) r < m .cells) ⌝ }
-    requires { ⌜ (constructorIn (now cells) (topCell (now stack) r) ≡ c → (c < 64) × (constructorArity (now index) c ≤ 4)) ⌝ }
-    requires { ⌜ ((constructorIn (now cells) (topCell (now stack) r) ≡ c → ⊥) → (0 < b) × (b ≤ 256) × Inside (r .code)
+    requires { ⌜ Lent m (now cells) (now stack) × (0 < r .top) × (r .top ≤ m .stack)
+        × (topReference (now stack) r < numberOf (m .cells)) ⌝ }
+    requires { ⌜ (labelIn (now cells) (topReference (now stack) r) ≡ c → isConstant (topReference (now stack) r) ≡ false
+        → (c < 64) × (constructorArity (now index) c ≤ 4)) ⌝ }
+    requires { ⌜ ((labelIn (now cells) (topReference (now stack) r) ≡ c → ⊥) → (0 < b) × (b ≤ 256) × Inside (r .code)
         × (r .code ≤ 33000)) ⌝ }
     ensures { λ t. ⌜ Branches m (now (cells .entry)) (now (stack .entry)) r next c b (constructorArity (now (index .entry)) c)
         (now (stack .exit)) t ⌝ }
@@ -99,6 +106,9 @@ fn branch(
     let k = wide16(stack[last]);
     if store::constructor_at(cells, k) != c {
         return went(r, place_behind(r.code, b - 1), r.top);
+    }
+    if store::is_constant(k) {
+        return went(r, next, last);
     }
     let n = constructor_arity(index, c);
     if last + n > m.stack {

@@ -1,15 +1,19 @@
 -- Laws of the heap that stands in the lent cells, and of a cell made.
-use Prim.Native.Nat.{ℕ, zero, suc, _+_, _*_, _≤_, _<_}
+use Prim.Native.Nat.{ℕ, zero, suc, _+_, _-_, _*_, _≤_, _<_}
 use mathlib.Core.Path.{_≡_, refl, ap, ap₂, _∙_}
 use mathlib.Core.List.{List, [], _∷_, _++_}
+use mathlib.Core.Bool.{Bool, true, false}
 use mathlib.Core.Logic.{⊎-elim}
 use native.Mathlib.Omega.{arith}
 use native.Mathlib.Nat.{eq-or-lt-of-le}
 use lib.ListN.{length, getD, length-append, List·getD-append}
 use lib.Seq.{getD-append-add}
-use Rattle.rules.specs.Heap.{Cell, Heap, cell, cellAt}
+use borrow.Author.Tests.{ltb-false}
+use Rattle.rules.specs.Heap.{Cell, Heap, cell, isConstant, numberOf, cellAt}
 use Rattle.rules.specs.Lists.{All}
-use Rattle.store.specs.Cells.{constructorIn, argumentIn, argumentsIn, CellRoom, heapIn, CellPut, CellsKept}
+use Rattle.rules.proofs.HeapLaws.{constant-at, cell-at}
+use Rattle.store.specs.Cells.{refs, constructorIn, argumentIn, argumentsIn, CellRoom, heapIn, cellOf, cellsTo, labelIn, arityIn}
+use Rattle.store.specs.Cells.{CellPut, CellsKept}
 use Rattle.store.proofs.RefLaws.{length-refs, refs-same, refs-end, refs-all, kept-refl, kept-trans, kept-later}
 
 pub arguments-length : (cells : List ℕ) (k n : ℕ) → length (argumentsIn cells k n) ≡ n
@@ -39,16 +43,15 @@ heap-length n cells (suc k) =
     length-append (heapIn n cells k) (cellIn n cells k ∷ []) ∙ omega arith
 
 -- the last of a heap, and the ones before it
-at-last : (heap : Heap) (x : Cell) (k : ℕ) → length heap ≡ k → cellAt (heap ++ (x ∷ [])) k ≡ x
+at-last : (heap : Heap) (x : Cell) (k : ℕ) → length heap ≡ k → getD (heap ++ (x ∷ [])) k (cell 0 []) ≡ x
 at-last heap x k e =
     let d : length heap + 0 ≡ k = omega arith in
     rw d at (getD-append-add heap (x ∷ []) 0 (cell 0 []))
 
-before-last : (heap : Heap) (x : Cell) (i : ℕ) → i < length heap → cellAt (heap ++ (x ∷ [])) i ≡ cellAt heap i
+before-last : (heap : Heap) (x : Cell) (i : ℕ) → i < length heap → getD (heap ++ (x ∷ [])) i (cell 0 []) ≡ getD heap i (cell 0 [])
 before-last heap x i h = List·getD-append heap (x ∷ []) (cell 0 []) i h
 
-pub heap-cell : (n : ℕ → ℕ) (cells : List ℕ) (k i : ℕ) → i < k
-    → cellAt (heapIn n cells k) i ≡ cell (constructorIn cells i) (argumentsIn cells i (n (constructorIn cells i)))
+heap-cell : (n : ℕ → ℕ) (cells : List ℕ) (k i : ℕ) → i < k → getD (heapIn n cells k) i (cell 0 []) ≡ cellIn n cells i
 unfolding heapIn
 heap-cell n cells zero i h = absurd (omega arith)
 heap-cell n cells (suc k) i h =
@@ -67,6 +70,61 @@ heap-same n n′ cells zero same = refl
 heap-same n n′ cells (suc k) same =
     let ih = heap-same n n′ cells k (λ i h. same i (omega arith)) in
     ap₂ (λ (heap : Heap) (a : ℕ). heap ++ (cell (constructorIn cells k) (argumentsIn cells k a) ∷ [])) ih (same k (omega arith))
+
+---- A reference
+
+module _ (k : ℕ) where
+  pub cell-inside : isConstant k ≡ false → (used : ℕ) → k < numberOf used → cellOf k < used
+  unfolding cellOf
+  cell-inside e used h = omega (arith, ltb-false k 64 e)
+
+  pub cells-inside : (used : ℕ) → k < numberOf used → cellsTo k ≤ used
+  unfolding cellsTo
+  cells-inside used h = omega arith
+
+  pub reference-below : (used : ℕ) → used ≤ 65471 → k < numberOf used → k < 65536
+  reference-below used few h = omega arith
+
+  pub cell-last-of : isConstant k ≡ false → cellOf k < cellsTo k
+  unfolding cellOf cellsTo
+  cell-last-of e = omega (arith, ltb-false k 64 e)
+
+  pub up-to : k < numberOf (cellsTo k)
+  unfolding cellsTo
+  up-to = omega arith
+
+pub cells-to-less : (j k : ℕ) → j ≤ k → cellsTo j ≤ cellsTo k
+unfolding cellsTo
+cells-to-less j k h = omega arith
+
+module _ (cells : List ℕ) (k : ℕ) where
+  pub constant-label : isConstant k ≡ true → labelIn cells k ≡ k
+  unfolding labelIn
+  constant-label e = rw e
+
+  pub cell-label : isConstant k ≡ false → labelIn cells k ≡ constructorIn cells (cellOf k)
+  unfolding labelIn
+  cell-label e = rw e
+
+  module _ (n : ℕ → ℕ) where
+    pub constant-arity : isConstant k ≡ true → arityIn n cells k ≡ 0
+    unfolding arityIn
+    constant-arity e = rw e
+
+    pub cell-arity : isConstant k ≡ false → arityIn n cells k ≡ n (labelIn cells k)
+    unfolding arityIn labelIn
+    cell-arity e = rw e
+
+    -- what it stands for in the heap of the first cells
+    pub heap-reference : (used : ℕ) → k < numberOf used
+        → cellAt (heapIn n cells used) k ≡ cell (labelIn cells k) (argumentsIn cells (cellOf k) (arityIn n cells k))
+    unfolding arityIn labelIn argumentsIn refs cellOf
+    heap-reference used h = one (isConstant k) refl
+      where
+        one : (t : Bool) → isConstant k ≡ t
+            → cellAt (heapIn n cells used) k ≡ cell (labelIn cells k) (argumentsIn cells (cellOf k) (arityIn n cells k))
+        one true e = constant-at (heapIn n cells used) k e ∙ rw e
+        one false e = rw e (cell-at (heapIn n cells used) k e ∙ heap-cell n cells used (k - 64) (omega (arith, h, ltb-false k 64 e)))
 
 -- the cells before a place are those of another table that agrees before it
 module _ (n : ℕ → ℕ) (cells cells′ : List ℕ) where

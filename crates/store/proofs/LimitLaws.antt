@@ -21,7 +21,7 @@ use Rattle.store.proofs.CellLaws.{room-kept}
 use Rattle.store.proofs.FrameLaws.{frame-room-kept}
 use Rattle.store.proofs.RefLaws.{kept-refl}
 
-pub limits-of : (m : Limits) (cells stack : List ℕ) (frames : List Frame) → m .cells ≡ min 65535 (length cells / 5)
+pub limits-of : (m : Limits) (cells stack : List ℕ) (frames : List Frame) → m .cells ≡ min 65471 (length cells / 5)
     → m .stack ≡ min 65535 (length stack) → m .frames ≡ min 65535 (length frames) → LimitsOf m cells stack frames
 unfolding CellRoom FrameRoom
 limits-of m cells stack frames a b c = record {

@@ -1,9 +1,10 @@
 -- How references and cells stand in the lent tables, five numbers to a cell. The crates above use laws of these definitions.
 use mathlib.Core.Path.{_≡_}
 use mathlib.Core.List.{List, [], _∷_, _++_}
-use Prim.Native.Nat.{ℕ, zero, suc, _+_, _*_, _≤_, _<_}
+use Prim.Native.Nat.{ℕ, zero, suc, _+_, _-_, _*_, _≤_, _<_}
 use lib.ListN.{length, getD}
-use Rattle.rules.specs.Heap.{Heap, cell}
+use Rattle.rules.specs.Base.{if_then_else_}
+use Rattle.rules.specs.Heap.{Heap, cell, isConstant}
 
 -- the n references of a table from place a on
 unfoldable pub refs : List ℕ → ℕ → ℕ → List ℕ
@@ -31,6 +32,24 @@ CellRoom cells n = 5 * n ≤ length cells
 unfoldable pub heapIn : (ℕ → ℕ) → List ℕ → ℕ → Heap
 heapIn n cells zero = []
 heapIn n cells (suc k) = heapIn n cells k ++ (cell (constructorIn cells k) (argumentsIn cells k (n (constructorIn cells k))) ∷ [])
+
+---- "A constructor of arity 0 becomes the number of its constructor, 0 to 63; cells count from 64": what a reference stands for
+
+-- its cell, where it is no constant
+unfoldable pub cellOf : ℕ → ℕ
+cellOf k = k - 64
+
+-- how many cells there are up to it
+unfoldable pub cellsTo : ℕ → ℕ
+cellsTo k = k + 1 - 64
+
+-- its constructor
+unfoldable pub labelIn : List ℕ → ℕ → ℕ
+labelIn cells k = if isConstant k then k else constructorIn cells (cellOf k)
+
+-- how many arguments it has, where constructor c has n c
+unfoldable pub arityIn : (ℕ → ℕ) → List ℕ → ℕ → ℕ
+arityIn n cells k = if isConstant k then 0 else n (constructorIn cells (cellOf k))
 
 ---- What stores do
 

@@ -17,7 +17,7 @@ tables m = record { cells = m .cells; stack = m .stack; frames = m .frames }
 -- the limits are of these tables
 pub record LimitsOf (m : Limits) (cells stack : List ℕ) (frames : List Frame) : Type 0 where
   pub cell-room : CellRoom cells (m .cells)
-  pub few-cells : m .cells ≤ 65535
+  pub few-cells : m .cells ≤ 65471
   pub stack-room : m .stack ≤ length stack
   pub few-places : m .stack ≤ 65535
   pub frame-room : FrameRoom frames (m .frames)

@@ -14,21 +14,22 @@ pub struct Limits {
     pub frames: usize,
 }
 
-// "Of each table at most 65,535 entries are used".
-fn most(n: usize) -> usize
-    ensures { λ r. ⌜ r ≡ min 65535 n ⌝ }
+// At most so many of a table are used.
+fn most(limit: usize, n: usize) -> usize
+    ensures { λ r. ⌜ r ≡ min limit n ⌝ }
 {
-    if n < 65535 { n } else { 65535 }
+    if n < limit { n } else { limit }
 }
 
-// For the crates above: what is usable of tables of so many numbers, five to a cell, and so many frames.
+// For the crates above: what is usable of tables of so many numbers, five to a cell, and so many frames. Cells are fewer, since constants
+// have numbers too.
 pub fn usable(cells: usize, stack: usize, frames: usize) -> Limits
-    ensures { λ r. ⌜ (r .cells ≡ min 65535 (cells / 5)) × (r .stack ≡ min 65535 stack) × (r .frames ≡ min 65535 frames) ⌝ }
+    ensures { λ r. ⌜ (r .cells ≡ min 65471 (cells / 5)) × (r .stack ≡ min 65535 stack) × (r .frames ≡ min 65535 frames) ⌝ }
 {
     Limits {
-        cells: most(cells / 5),
-        stack: most(stack),
-        frames: most(frames),
+        cells: most(65471, cells / 5),
+        stack: most(65535, stack),
+        frames: most(65535, frames),
     }
 }
 
@@ -46,7 +47,7 @@ fn clear(table: &mut [u16], n: usize)
 
 // For the crates above: after the run, the usable entries of cells and stack zero, any beyond kept.
 pub fn wipe(cells: &mut [u16], stack: &mut [u16], m: Limits)
-    requires { ⌜ CellRoom (now cells) (m .cells) × (m .cells ≤ 65535) × (m .stack ≤ length (now stack)) ⌝ }
+    requires { ⌜ CellRoom (now cells) (m .cells) × (m .cells ≤ 65471) × (m .stack ≤ length (now stack)) ⌝ }
     ensures { λ _. ⌜ Wiped m (now (cells .entry)) (now (stack .entry)) (now (cells .exit)) (now (stack .exit)) ⌝ }
 {
     clear(cells, 5 * m.cells);

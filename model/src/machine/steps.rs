@@ -1,10 +1,11 @@
 //! The steps of the machine.
 
 use super::code::{Code, Operation, Waiting};
-use super::{Cell, Frame};
+use super::values::{cell_of, of_cell, Cell};
+use super::Frame;
 use crate::decode::MOST_ARGUMENTS;
 
-/// Why the machine takes no further step: a figure in a cell, a stop, or a number from 14 to 17.
+/// Why the machine takes no further step: a value that is the figure, a stop, or a number from 14 to 17.
 pub enum End {
     Figure(u16),
     GaveUp,
@@ -28,7 +29,7 @@ pub struct Machine<'a> {
 
 /// What a step changes besides the tables.
 pub struct Top {
-    /// Cells in use.
+    /// Cells in use, of which a constant takes none.
     pub used: usize,
     /// Waiting frames.
     pub waiting: usize,
@@ -102,16 +103,27 @@ impl Machine<'_> {
         if start >= self.stack.len() {
             return Err(End::Short(16));
         }
+        self.stack[start] = if arity == 0 {
+            u16::from(constructor)
+        } else {
+            self.make(constructor, start, top)?
+        };
+        top.end = start + 1;
+        top.next += 1;
+        Ok(())
+    }
+
+    /// Makes a cell of a constructor and the values on top, and gives its value.
+    #[inline(always)]
+    fn make(&mut self, constructor: u8, start: usize, top: &mut Top) -> Result<u16, End> {
         let cell = self.cells.get_mut(top.used).ok_or(End::Short(15))?;
         *cell = [u16::from(constructor), 0, 0, 0, 0];
         for (part, value) in cell[1..].iter_mut().zip(&self.stack[start..top.end]) {
             *part = *value;
         }
-        self.stack[start] = top.used as u16;
+        let value = of_cell(top.used);
         top.used += 1;
-        top.end = start + 1;
-        top.next += 1;
-        Ok(())
+        Ok(value)
     }
 
     #[inline(always)]
@@ -154,11 +166,16 @@ impl Machine<'_> {
         top: &mut Top,
     ) -> Result<(), End> {
         let start = top.end - 1;
-        let [tested, parts @ ..] = &self.cells[usize::from(self.stack[start])];
-        if *tested != u16::from(constructor) {
-            top.next = usize::from(target);
-            return Ok(());
-        }
+        let constructor = u16::from(constructor);
+        let value = self.stack[start];
+        let parts = match cell_of(self.cells, value) {
+            Some([tested, parts @ ..]) if *tested == constructor => parts,
+            None if value == constructor => &[0; MOST_ARGUMENTS],
+            _ => {
+                top.next = usize::from(target);
+                return Ok(());
+            }
+        };
         if start + arity > self.stack.len() {
             return Err(End::Short(16));
         }

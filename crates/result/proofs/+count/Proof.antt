@@ -1,7 +1,8 @@
 -- What is counted and the bytes still to come are together the value's bytes.
+use mathlib.Core.Path.{sym, _∙_}
 use native.Mathlib.Omega.{arith}
 use Rattle.result.proofs.ResultLaws.{Counting, counting-start, counting-few, counting-end, counting-whole, counting-next}
-use Rattle.result.proofs.ResultLaws.{counting-last, visit-readable, visit-earlier, visit-few}
+use Rattle.result.proofs.ResultLaws.{counting-constant, counting-last, visit-cell, visit-readable, visit-earlier, visit-few}
 use borrow.Author.Needs.{needs}
 use Prim.Native.Nat.{ℕ, _+_, _-_, _*_, _<_}
 use borrow.Fn.Kinds.{In}
@@ -11,6 +12,7 @@ use Rattle.result.proofs.count.Kinds as count-kinds
 use Rattle.result.proofs.+count.Lts-count as count-lts
 use Rattle.result.proofs.arity_at.Reads as arity-at-reads
 use Rattle.store.proofs.argument_at.Reads as argument-at-reads
+use Rattle.store.proofs.is_constant.Reads as is-constant-reads
 use Rattle.result.proofs.+count.{statement}
 use Rattle.result.proofs.+count.Tie.{close}
 
@@ -34,6 +36,8 @@ count-arity-at-requires : (t : ℕ) → count-lts.Need-arity-at-requires (
   arity-at-reads.Learnt,
   argument-at-reads.Asked,
   argument-at-reads.Learnt,
+  is-constant-reads.Asked,
+  is-constant-reads.Learnt,
   count-below t,
   count.Post,
 ) (count-at t) count.Post count-Inv-loop count-μ-loop
@@ -44,6 +48,8 @@ count-loop-holds : (t : ℕ) → count-lts.Need-loop-holds (
   arity-at-reads.Learnt,
   argument-at-reads.Asked,
   argument-at-reads.Learnt,
+  is-constant-reads.Asked,
+  is-constant-reads.Learnt,
   count-below t,
   count.Post,
 ) (count-at t) count.Post count-Inv-loop count-μ-loop
@@ -56,58 +62,50 @@ count-argument-at-requires : (t : ℕ) → count-lts.Need-argument-at-requires (
   arity-at-reads.Learnt,
   argument-at-reads.Asked,
   argument-at-reads.Learnt,
+  is-constant-reads.Asked,
+  is-constant-reads.Learnt,
   count-below t,
   count.Post,
 ) (count-at t) count.Post count-Inv-loop count-μ-loop
 count-argument-at-requires t c κs =
     let i = c .before .loop .inv in
-    (i .at .readable .room, i .at .readable .small, omega (arith, counting-few i))
+    (i .at .readable .room, i .at .readable .small, visit-cell (i .at) (c .loop-test .taken), omega (arith, counting-few i))
 
-count-add-if1 : (t : ℕ) → count-lts.Need-add-if1 (
+count-is-constant-requires : (t : ℕ) → count-lts.Need-is-constant-requires (
   arity-at-reads.Asked,
   arity-at-reads.Learnt,
   argument-at-reads.Asked,
   argument-at-reads.Learnt,
+  is-constant-reads.Asked,
+  is-constant-reads.Learnt,
   count-below t,
   count.Post,
 ) (count-at t) count.Post count-Inv-loop count-μ-loop
-count-add-if1 t c = omega (arith, counting-few (c .before .before .loop .inv))
-
-count-count-requires : (t : ℕ) → count-lts.Need-count-requires (
-  arity-at-reads.Asked,
-  arity-at-reads.Learnt,
-  argument-at-reads.Asked,
-  argument-at-reads.Learnt,
-  count-below t,
-  count.Post,
-) (count-at t) count.Post count-Inv-loop count-μ-loop
-count-count-requires t c κs =
-    let start = c .before .before .before .before .before .before in
-    let l = c .before .before .before .loop in
-    let r = c .before .argument-at in
-    let whole = counting-whole (l .inv) (omega arith) (r .ensures .0) in (
-      omega (arith, start .pre .0, visit-earlier (l .inv .at) (omega arith) (r .ensures .0), l .inv .low),
-      (visit-readable (l .inv .at) (omega arith) (r .ensures .0), omega (arith, whole .0, start .pre .1 .1)),
-    )
+count-is-constant-requires t c κs = search needs
 
 count-add-total : (t : ℕ) → count-lts.Need-add-total (
   arity-at-reads.Asked,
   arity-at-reads.Learnt,
   argument-at-reads.Asked,
   argument-at-reads.Learnt,
+  is-constant-reads.Asked,
+  is-constant-reads.Learnt,
   count-below t,
   count.Post,
 ) (count-at t) count.Post count-Inv-loop count-μ-loop
 count-add-total t c =
     let start = c .before .before .before .before .before .before .before in
-    let whole = counting-whole (c .before .before .before .before .loop .inv) (omega arith) (c .before .before .argument-at .ensures .0) in
-    omega (arith, whole .0, start .pre .1 .1, c .count .ensures)
+    let more = c .before .before .before .loop-test .taken in
+    let whole = counting-whole (c .before .before .before .before .loop .inv) more (c .before .before .argument-at .ensures .0) in
+    omega (arith, whole .0, whole .1, start .pre .1 .1)
 
 count-add-j : (t : ℕ) → count-lts.Need-add-j (
   arity-at-reads.Asked,
   arity-at-reads.Learnt,
   argument-at-reads.Asked,
   argument-at-reads.Learnt,
+  is-constant-reads.Asked,
+  is-constant-reads.Learnt,
   count-below t,
   count.Post,
 ) (count-at t) count.Post count-Inv-loop count-μ-loop
@@ -118,81 +116,192 @@ count-loop-less : (t : ℕ) → count-lts.Need-loop-less (
   arity-at-reads.Learnt,
   argument-at-reads.Asked,
   argument-at-reads.Learnt,
+  is-constant-reads.Asked,
+  is-constant-reads.Learnt,
   count-below t,
   count.Post,
 ) (count-at t) count.Post count-Inv-loop count-μ-loop
-count-loop-less t c = omega arith
+count-loop-less t c = omega (arith, c .before .before .before .loop-test .taken)
 
 count-loop-again : (t : ℕ) → count-lts.Need-loop-again (
   arity-at-reads.Asked,
   arity-at-reads.Learnt,
   argument-at-reads.Asked,
   argument-at-reads.Learnt,
+  is-constant-reads.Asked,
+  is-constant-reads.Learnt,
   count-below t,
   count.Post,
 ) (count-at t) count.Post count-Inv-loop count-μ-loop
 count-loop-again t c =
-    let at-loop = c .before .before .before .before in
-    rw (c .count .ensures) (counting-next (at-loop .loop .inv) (omega arith) (c .before .before .argument-at .ensures .0))
+    let constant = sym (c .before .is-constant .ensures) ∙ c .if1 .taken in
+    let more = c .before .before .before .loop-test .taken in
+    counting-constant (c .before .before .before .before .loop .inv) more (c .before .before .argument-at .ensures .0) constant
 
-count-arity-at-requires-2 : (t : ℕ) → count-lts.Need-arity-at-requires-2 (
+count-add-if2 : (t : ℕ) → count-lts.Need-add-if2 (
   arity-at-reads.Asked,
   arity-at-reads.Learnt,
   argument-at-reads.Asked,
   argument-at-reads.Learnt,
+  is-constant-reads.Asked,
+  is-constant-reads.Learnt,
   count-below t,
   count.Post,
 ) (count-at t) count.Post count-Inv-loop count-μ-loop
-count-arity-at-requires-2 t c κs =
-    let at-loop = c .before .before .before in
-    visit-readable (at-loop .loop .inv .at) (omega arith) (c .before .argument-at .ensures .0)
+count-add-if2 t c = omega (arith, counting-few (c .before .before .before .before .loop .inv))
+
+count-count-requires : (t : ℕ) → count-lts.Need-count-requires (
+  arity-at-reads.Asked,
+  arity-at-reads.Learnt,
+  argument-at-reads.Asked,
+  argument-at-reads.Learnt,
+  is-constant-reads.Asked,
+  is-constant-reads.Learnt,
+  count-below t,
+  count.Post,
+) (count-at t) count.Post count-Inv-loop count-μ-loop
+count-count-requires t c κs =
+    let at-loop = c .before .before .before .before .before in
+    let start = at-loop .before .before .before in
+    let i = at-loop .loop .inv in
+    let more = c .before .before .before .before .loop-test .taken in
+    let named = c .before .before .before .argument-at .ensures .0 in
+    let whole = counting-whole i more named in (
+      omega (arith, start .pre .0, visit-earlier (i .at) more named, i .low),
+      (visit-readable (i .at) more named, omega (arith, whole .0, start .pre .1 .1)),
+    )
 
 count-add-total-2 : (t : ℕ) → count-lts.Need-add-total-2 (
   arity-at-reads.Asked,
   arity-at-reads.Learnt,
   argument-at-reads.Asked,
   argument-at-reads.Learnt,
+  is-constant-reads.Asked,
+  is-constant-reads.Learnt,
   count-below t,
   count.Post,
 ) (count-at t) count.Post count-Inv-loop count-μ-loop
 count-add-total-2 t c =
-    let at-loop = c .before .before .before .before in
-    omega (arith, at-loop .loop .inv .sum, c .before .before .before .before .before .before .before .pre .1 .1)
+    let at-loop = c .before .before .before .before .before .before in
+    let start = at-loop .before .before .before in
+    let more = c .before .before .before .before .before .loop-test .taken in
+    let whole = counting-whole (at-loop .loop .inv) more (c .before .before .before .before .argument-at .ensures .0) in
+    omega (arith, whole .0, start .pre .1 .1, c .count .ensures)
+
+count-add-j-2 : (t : ℕ) → count-lts.Need-add-j-2 (
+  arity-at-reads.Asked,
+  arity-at-reads.Learnt,
+  argument-at-reads.Asked,
+  argument-at-reads.Learnt,
+  is-constant-reads.Asked,
+  is-constant-reads.Learnt,
+  count-below t,
+  count.Post,
+) (count-at t) count.Post count-Inv-loop count-μ-loop
+count-add-j-2 t c = omega (arith, counting-few (c .before .before .before .before .before .before .loop .inv))
 
 count-loop-less-2 : (t : ℕ) → count-lts.Need-loop-less-2 (
   arity-at-reads.Asked,
   arity-at-reads.Learnt,
   argument-at-reads.Asked,
   argument-at-reads.Learnt,
+  is-constant-reads.Asked,
+  is-constant-reads.Learnt,
   count-below t,
   count.Post,
 ) (count-at t) count.Post count-Inv-loop count-μ-loop
-count-loop-less-2 t c =
-    let named = c .before .before .argument-at .ensures .0 in
-    let at = c .before .before .before .before .loop .inv .at in
-    omega (arith, visit-few at (omega arith) named (c .arity-at2 .ensures), visit-earlier at (omega arith) named)
+count-loop-less-2 t c = omega (arith, c .before .before .before .before .before .loop-test .taken)
 
 count-loop-again-2 : (t : ℕ) → count-lts.Need-loop-again-2 (
   arity-at-reads.Asked,
   arity-at-reads.Learnt,
   argument-at-reads.Asked,
   argument-at-reads.Learnt,
+  is-constant-reads.Asked,
+  is-constant-reads.Learnt,
   count-below t,
   count.Post,
 ) (count-at t) count.Post count-Inv-loop count-μ-loop
 count-loop-again-2 t c =
-    let named = c .before .before .argument-at .ensures .0 in
-    counting-last (c .before .before .before .before .loop .inv) (omega arith) named (omega arith) (c .arity-at2 .ensures)
+    let i = c .before .before .before .before .before .before .loop .inv in
+    let more = c .before .before .before .before .before .loop-test .taken in
+    rw (c .count .ensures) (counting-next i more (c .before .before .before .before .argument-at .ensures .0))
+
+count-arity-at-requires-2 : (t : ℕ) → count-lts.Need-arity-at-requires-2 (
+  arity-at-reads.Asked,
+  arity-at-reads.Learnt,
+  argument-at-reads.Asked,
+  argument-at-reads.Learnt,
+  is-constant-reads.Asked,
+  is-constant-reads.Learnt,
+  count-below t,
+  count.Post,
+) (count-at t) count.Post count-Inv-loop count-μ-loop
+count-arity-at-requires-2 t c κs =
+    let at = c .before .before .before .before .before .loop .inv .at in
+    let more = c .before .before .before .before .loop-test .taken in
+    visit-readable at more (c .before .before .before .argument-at .ensures .0)
+
+count-add-total-3 : (t : ℕ) → count-lts.Need-add-total-3 (
+  arity-at-reads.Asked,
+  arity-at-reads.Learnt,
+  argument-at-reads.Asked,
+  argument-at-reads.Learnt,
+  is-constant-reads.Asked,
+  is-constant-reads.Learnt,
+  count-below t,
+  count.Post,
+) (count-at t) count.Post count-Inv-loop count-μ-loop
+count-add-total-3 t c =
+    let at-loop = c .before .before .before .before .before .before in
+    let start = at-loop .before .before .before in
+    let more = c .before .before .before .before .before .loop-test .taken in
+    let whole = counting-whole (at-loop .loop .inv) more (c .before .before .before .before .argument-at .ensures .0) in
+    omega (arith, whole .0, whole .1, start .pre .1 .1)
+
+count-loop-less-3 : (t : ℕ) → count-lts.Need-loop-less-3 (
+  arity-at-reads.Asked,
+  arity-at-reads.Learnt,
+  argument-at-reads.Asked,
+  argument-at-reads.Learnt,
+  is-constant-reads.Asked,
+  is-constant-reads.Learnt,
+  count-below t,
+  count.Post,
+) (count-at t) count.Post count-Inv-loop count-μ-loop
+count-loop-less-3 t c =
+    let at = c .before .before .before .before .before .before .loop .inv .at in
+    let more = c .before .before .before .before .before .loop-test .taken in
+    let named = c .before .before .before .before .argument-at .ensures .0 in
+    omega (arith, visit-few at more named (c .arity-at2 .ensures), visit-earlier at more named)
+
+count-loop-again-3 : (t : ℕ) → count-lts.Need-loop-again-3 (
+  arity-at-reads.Asked,
+  arity-at-reads.Learnt,
+  argument-at-reads.Asked,
+  argument-at-reads.Learnt,
+  is-constant-reads.Asked,
+  is-constant-reads.Learnt,
+  count-below t,
+  count.Post,
+) (count-at t) count.Post count-Inv-loop count-μ-loop
+count-loop-again-3 t c =
+    let i = c .before .before .before .before .before .before .loop .inv in
+    let more = c .before .before .before .before .before .loop-test .taken in
+    let named = c .before .before .before .before .argument-at .ensures .0 in
+    counting-last i more named (c .before .if2 .left) (c .arity-at2 .ensures)
 
 count-returns : (t : ℕ) → count-lts.Need-returns (
   arity-at-reads.Asked,
   arity-at-reads.Learnt,
   argument-at-reads.Asked,
   argument-at-reads.Learnt,
+  is-constant-reads.Asked,
+  is-constant-reads.Learnt,
   count-below t,
   count.Post,
 ) (count-at t) count.Post count-Inv-loop count-μ-loop
-count-returns t c = omega (arith, counting-end (c .before .loop .inv) (omega arith))
+count-returns t c = omega (arith, counting-end (c .before .loop .inv) (c .loop-test .left))
 
 pub +count-spec : {M : Type 1} → statement M
 +count-spec = close μ-count λ t. count-lts.spec (
@@ -200,6 +309,8 @@ pub +count-spec : {M : Type 1} → statement M
   arity-at-reads.Learnt,
   argument-at-reads.Asked,
   argument-at-reads.Learnt,
+  is-constant-reads.Asked,
+  is-constant-reads.Learnt,
   count-below t,
   count.Post,
 )
@@ -210,14 +321,19 @@ pub +count-spec : {M : Type 1} → statement M
     (count-arity-at-requires t)
     (count-loop-holds t)
     (count-argument-at-requires t)
-    (count-add-if1 t)
-    (count-count-requires t)
+    (count-is-constant-requires t)
     (count-add-total t)
     (count-add-j t)
     (count-loop-less t)
     (count-loop-again t)
-    (count-arity-at-requires-2 t)
+    (count-add-if2 t)
+    (count-count-requires t)
     (count-add-total-2 t)
+    (count-add-j-2 t)
     (count-loop-less-2 t)
     (count-loop-again-2 t)
+    (count-arity-at-requires-2 t)
+    (count-add-total-3 t)
+    (count-loop-less-3 t)
+    (count-loop-again-3 t)
     (count-returns t)

@@ -1,12 +1,13 @@
 -- What is written and the bytes still to come are together the value's bytes.
-use mathlib.Core.Path.{sym, ap, _∙_}
+use mathlib.Core.Path.{refl, sym, ap, _∙_}
 use mathlib.Core.List.{List}
 use native.Mathlib.Omega.{arith}
 use lib.ListN.{set, length-set}
 use lib.Seq.{sets}
-use Rattle.result.proofs.ValueLaws.{rest}
-use Rattle.result.proofs.ResultLaws.{Writing, writing-start, writing-end, writing-next, writing-last, counting-few, counting-whole}
-use Rattle.result.proofs.ResultLaws.{length-all, sets-all, visit-readable, visit-earlier, visit-few}
+use borrow.Author.Tests.{ltb-true}
+use Rattle.result.proofs.ValueLaws.{rest, label-known}
+use Rattle.result.proofs.ResultLaws.{Writing, writing-start, writing-end, writing-next, writing-constant, writing-last, counting-few}
+use Rattle.result.proofs.ResultLaws.{counting-whole, length-all, sets-all, visit-cell, visit-readable, visit-earlier, visit-few}
 use borrow.Author.Needs.{needs}
 use Prim.Native.Nat.{ℕ, _+_, _-_, _*_, _<_}
 use borrow.Fn.Kinds.{In}
@@ -17,6 +18,7 @@ use Rattle.result.proofs.+write_value.Lts-write_value as write-value-lt
 use Rattle.result.proofs.arity_at.Reads as arity-at-reads
 use Rattle.store.proofs.argument_at.Reads as argument-at-reads
 use Rattle.store.proofs.constructor_at.Reads as constructor-at-reads
+use Rattle.store.proofs.is_constant.Reads as is-constant-reads
 use Rattle.result.proofs.+write_value.{statement}
 use Rattle.result.proofs.+write_value.Tie.{close}
 
@@ -44,6 +46,8 @@ write-value-arity-at-requires : (t : ℕ) → write-value-lts.Need-arity-at-requ
   constructor-at-reads.Learnt,
   argument-at-reads.Asked,
   argument-at-reads.Learnt,
+  is-constant-reads.Asked,
+  is-constant-reads.Learnt,
   write-value-below t,
   write-value.Post,
 ) (write-value-at t) write-value.Post write-value-Inv-loop write-value-μ-loop
@@ -56,6 +60,8 @@ write-value-constructor-at-requires : (t : ℕ) → write-value-lts.Need-constru
   constructor-at-reads.Learnt,
   argument-at-reads.Asked,
   argument-at-reads.Learnt,
+  is-constant-reads.Asked,
+  is-constant-reads.Learnt,
   write-value-below t,
   write-value.Post,
 ) (write-value-at t) write-value.Post write-value-Inv-loop write-value-μ-loop
@@ -70,12 +76,15 @@ write-value-cast-out : (t : ℕ) → write-value-lts.Need-cast-out (
   constructor-at-reads.Learnt,
   argument-at-reads.Asked,
   argument-at-reads.Learnt,
+  is-constant-reads.Asked,
+  is-constant-reads.Learnt,
   write-value-below t,
   write-value.Post,
 ) (write-value-at t) write-value.Post write-value-Inv-loop write-value-μ-loop
 write-value-cast-out t c =
     let start = c .before .before .before .before in
-    omega (arith, start .pre .1 .0 .known (start .args .k) (omega arith), c .constructor-at .ensures .0)
+    let x = start .args in
+    omega (arith, label-known (x .index .now) (x .cells .now) (x .k) (start .pre .1 .0), c .constructor-at .ensures .0)
 
 write-value-slice-write-out : (t : ℕ) → write-value-lts.Need-slice-write-out (
   arity-at-reads.Asked,
@@ -84,13 +93,16 @@ write-value-slice-write-out : (t : ℕ) → write-value-lts.Need-slice-write-out
   constructor-at-reads.Learnt,
   argument-at-reads.Asked,
   argument-at-reads.Learnt,
+  is-constant-reads.Asked,
+  is-constant-reads.Learnt,
   write-value-below t,
   write-value.Post,
 ) (write-value-at t) write-value.Post write-value-Inv-loop write-value-μ-loop
 write-value-slice-write-out t c =
     let start = c .before .before .before .before in
+    let x = start .args in
     let p = start .pre .1 in
-    omega (arith, p .1, length-all (start .args .index .now) (start .args .cells .now) (start .args .k) (p .0))
+    omega (arith, p .1, length-all (x .index .now) (x .cells .now) (x .k) (p .0))
 
 write-value-add-next : (t : ℕ) → write-value-lts.Need-add-next (
   arity-at-reads.Asked,
@@ -99,6 +111,8 @@ write-value-add-next : (t : ℕ) → write-value-lts.Need-add-next (
   constructor-at-reads.Learnt,
   argument-at-reads.Asked,
   argument-at-reads.Learnt,
+  is-constant-reads.Asked,
+  is-constant-reads.Learnt,
   write-value-below t,
   write-value.Post,
 ) (write-value-at t) write-value.Post write-value-Inv-loop write-value-μ-loop
@@ -111,6 +125,8 @@ write-value-loop-holds : (t : ℕ) → write-value-lts.Need-loop-holds (
   constructor-at-reads.Learnt,
   argument-at-reads.Asked,
   argument-at-reads.Learnt,
+  is-constant-reads.Asked,
+  is-constant-reads.Learnt,
   write-value-below t,
   write-value.Post,
 ) (write-value-at t) write-value.Post write-value-Inv-loop write-value-μ-loop
@@ -126,100 +142,28 @@ write-value-argument-at-requires : (t : ℕ) → write-value-lts.Need-argument-a
   constructor-at-reads.Learnt,
   argument-at-reads.Asked,
   argument-at-reads.Learnt,
+  is-constant-reads.Asked,
+  is-constant-reads.Learnt,
   write-value-below t,
   write-value.Post,
 ) (write-value-at t) write-value.Post write-value-Inv-loop write-value-μ-loop
 write-value-argument-at-requires t c κs =
     let i = c .before .loop .inv .count in
-    (i .at .readable .room, i .at .readable .small, omega (arith, counting-few i))
+    (i .at .readable .room, i .at .readable .small, visit-cell (i .at) (c .loop-test .taken), omega (arith, counting-few i))
 
-write-value-add-if1 : (t : ℕ) → write-value-lts.Need-add-if1 (
+write-value-is-constant-requires : (t : ℕ) → write-value-lts.Need-is-constant-requires (
   arity-at-reads.Asked,
   arity-at-reads.Learnt,
   constructor-at-reads.Asked,
   constructor-at-reads.Learnt,
   argument-at-reads.Asked,
   argument-at-reads.Learnt,
+  is-constant-reads.Asked,
+  is-constant-reads.Learnt,
   write-value-below t,
   write-value.Post,
 ) (write-value-at t) write-value.Post write-value-Inv-loop write-value-μ-loop
-write-value-add-if1 t c = omega (arith, counting-few (c .before .before .loop .inv .count))
-
-write-value-write-value-requires : (t : ℕ) → write-value-lts.Need-write-value-requires (
-  arity-at-reads.Asked,
-  arity-at-reads.Learnt,
-  constructor-at-reads.Asked,
-  constructor-at-reads.Learnt,
-  argument-at-reads.Asked,
-  argument-at-reads.Learnt,
-  write-value-below t,
-  write-value.Post,
-) (write-value-at t) write-value.Post write-value-Inv-loop write-value-μ-loop
-write-value-write-value-requires t c κs =
-    let at-loop = c .before .before .before .before in
-    let start = at-loop .before .before .before .before .before in
-    let i = at-loop .loop .inv in
-    let named = c .before .before .argument-at .ensures .0 in
-    let whole = counting-whole (i .count) (omega arith) named in
-    let earlier = visit-earlier (i .count .at) (omega arith) named in (
-      omega (arith, start .pre .0, earlier, i .count .low),
-      (visit-readable (i .count .at) (omega arith) named, omega (arith, whole .0, simp length-set at (i .long), start .pre .1 .1)),
-    )
-
-write-value-add-j : (t : ℕ) → write-value-lts.Need-add-j (
-  arity-at-reads.Asked,
-  arity-at-reads.Learnt,
-  constructor-at-reads.Asked,
-  constructor-at-reads.Learnt,
-  argument-at-reads.Asked,
-  argument-at-reads.Learnt,
-  write-value-below t,
-  write-value.Post,
-) (write-value-at t) write-value.Post write-value-Inv-loop write-value-μ-loop
-write-value-add-j t c = omega (arith, counting-few (c .before .before .before .before .before .before .before .loop .inv .count))
-
-write-value-loop-less : (t : ℕ) → write-value-lts.Need-loop-less (
-  arity-at-reads.Asked,
-  arity-at-reads.Learnt,
-  constructor-at-reads.Asked,
-  constructor-at-reads.Learnt,
-  argument-at-reads.Asked,
-  argument-at-reads.Learnt,
-  write-value-below t,
-  write-value.Post,
-) (write-value-at t) write-value.Post write-value-Inv-loop write-value-μ-loop
-write-value-loop-less t c = omega arith
-
-write-value-loop-again : (t : ℕ) → write-value-lts.Need-loop-again (
-  arity-at-reads.Asked,
-  arity-at-reads.Learnt,
-  constructor-at-reads.Asked,
-  constructor-at-reads.Learnt,
-  argument-at-reads.Asked,
-  argument-at-reads.Learnt,
-  write-value-below t,
-  write-value.Post,
-) (write-value-at t) write-value.Post write-value-Inv-loop write-value-μ-loop
-write-value-loop-again t c =
-    let w = c .before .before .write-value in
-    let named = c .before .before .before .before .before .argument-at .ensures .0 in
-    let at-loop = c .before .before .before .before .before .before .before in
-    writing-next (at-loop .loop .inv) (omega arith) named (w .kept .1 .1 .0) (w .ensures .0) (w .ensures .1)
-
-write-value-constructor-at-requires-2 : (t : ℕ) → write-value-lts.Need-constructor-at-requires-2 (
-  arity-at-reads.Asked,
-  arity-at-reads.Learnt,
-  constructor-at-reads.Asked,
-  constructor-at-reads.Learnt,
-  argument-at-reads.Asked,
-  argument-at-reads.Learnt,
-  write-value-below t,
-  write-value.Post,
-) (write-value-at t) write-value.Post write-value-Inv-loop write-value-μ-loop
-write-value-constructor-at-requires-2 t c κs =
-    let at-loop = c .before .before .before in
-    let r = visit-readable (at-loop .loop .inv .count .at) (omega arith) (c .before .argument-at .ensures .0) in
-    (r .room, r .small)
+write-value-is-constant-requires t c κs = search needs
 
 write-value-cast-out-2 : (t : ℕ) → write-value-lts.Need-cast-out-2 (
   arity-at-reads.Asked,
@@ -228,14 +172,14 @@ write-value-cast-out-2 : (t : ℕ) → write-value-lts.Need-cast-out-2 (
   constructor-at-reads.Learnt,
   argument-at-reads.Asked,
   argument-at-reads.Learnt,
+  is-constant-reads.Asked,
+  is-constant-reads.Learnt,
   write-value-below t,
   write-value.Post,
 ) (write-value-at t) write-value.Post write-value-Inv-loop write-value-μ-loop
 write-value-cast-out-2 t c =
-    let at-loop = c .before .before .before .before in
-    let child = c .before .before .argument-at in
-    let r = visit-readable (at-loop .loop .inv .count .at) (omega arith) (child .ensures .0) in
-    omega (arith, r .known (child .result) (omega arith), c .constructor-at2 .ensures .0)
+    let constant = sym (c .before .is-constant .ensures) ∙ c .if1 .taken in
+    omega (arith, ltb-true (c .before .before .argument-at .result) 64 constant)
 
 write-value-slice-write-out-2 : (t : ℕ) → write-value-lts.Need-slice-write-out-2 (
   arity-at-reads.Asked,
@@ -244,6 +188,8 @@ write-value-slice-write-out-2 : (t : ℕ) → write-value-lts.Need-slice-write-o
   constructor-at-reads.Learnt,
   argument-at-reads.Asked,
   argument-at-reads.Learnt,
+  is-constant-reads.Asked,
+  is-constant-reads.Learnt,
   write-value-below t,
   write-value.Post,
 ) (write-value-at t) write-value.Post write-value-Inv-loop write-value-μ-loop
@@ -251,7 +197,7 @@ write-value-slice-write-out-2 t c =
     let at-loop = c .before .before .before .before in
     let start = at-loop .before .before .before .before .before in
     let i = at-loop .loop .inv in
-    let whole = counting-whole (i .count) (omega arith) (c .before .before .argument-at .ensures .0) in
+    let whole = counting-whole (i .count) (c .before .before .before .loop-test .taken) (c .before .before .argument-at .ensures .0) in
     omega (arith, whole .0, whole .1, simp length-set at (i .long), start .pre .1 .1)
 
 write-value-add-next-2 : (t : ℕ) → write-value-lts.Need-add-next-2 (
@@ -261,24 +207,111 @@ write-value-add-next-2 : (t : ℕ) → write-value-lts.Need-add-next-2 (
   constructor-at-reads.Learnt,
   argument-at-reads.Asked,
   argument-at-reads.Learnt,
+  is-constant-reads.Asked,
+  is-constant-reads.Learnt,
   write-value-below t,
   write-value.Post,
 ) (write-value-at t) write-value.Post write-value-Inv-loop write-value-μ-loop
 write-value-add-next-2 t c = search needs
 
-write-value-arity-at-requires-2 : (t : ℕ) → write-value-lts.Need-arity-at-requires-2 (
+write-value-add-j : (t : ℕ) → write-value-lts.Need-add-j (
   arity-at-reads.Asked,
   arity-at-reads.Learnt,
   constructor-at-reads.Asked,
   constructor-at-reads.Learnt,
   argument-at-reads.Asked,
   argument-at-reads.Learnt,
+  is-constant-reads.Asked,
+  is-constant-reads.Learnt,
   write-value-below t,
   write-value.Post,
 ) (write-value-at t) write-value.Post write-value-Inv-loop write-value-μ-loop
-write-value-arity-at-requires-2 t c κs =
-    let at-loop = c .before .before .before .before in
-    visit-readable (at-loop .loop .inv .count .at) (omega arith) (c .before .before .argument-at .ensures .0)
+write-value-add-j t c = omega (arith, counting-few (c .before .before .before .before .loop .inv .count))
+
+write-value-loop-less : (t : ℕ) → write-value-lts.Need-loop-less (
+  arity-at-reads.Asked,
+  arity-at-reads.Learnt,
+  constructor-at-reads.Asked,
+  constructor-at-reads.Learnt,
+  argument-at-reads.Asked,
+  argument-at-reads.Learnt,
+  is-constant-reads.Asked,
+  is-constant-reads.Learnt,
+  write-value-below t,
+  write-value.Post,
+) (write-value-at t) write-value.Post write-value-Inv-loop write-value-μ-loop
+write-value-loop-less t c = omega (arith, c .before .before .before .loop-test .taken)
+
+write-value-loop-again : (t : ℕ) → write-value-lts.Need-loop-again (
+  arity-at-reads.Asked,
+  arity-at-reads.Learnt,
+  constructor-at-reads.Asked,
+  constructor-at-reads.Learnt,
+  argument-at-reads.Asked,
+  argument-at-reads.Learnt,
+  is-constant-reads.Asked,
+  is-constant-reads.Learnt,
+  write-value-below t,
+  write-value.Post,
+) (write-value-at t) write-value.Post write-value-Inv-loop write-value-μ-loop
+write-value-loop-again t c =
+    let i = c .before .before .before .before .loop .inv in
+    let more = c .before .before .before .loop-test .taken in
+    let constant = sym (c .before .is-constant .ensures) ∙ c .if1 .taken in
+    writing-constant i more (c .before .before .argument-at .ensures .0) (simp length-set) constant refl
+
+write-value-add-if2 : (t : ℕ) → write-value-lts.Need-add-if2 (
+  arity-at-reads.Asked,
+  arity-at-reads.Learnt,
+  constructor-at-reads.Asked,
+  constructor-at-reads.Learnt,
+  argument-at-reads.Asked,
+  argument-at-reads.Learnt,
+  is-constant-reads.Asked,
+  is-constant-reads.Learnt,
+  write-value-below t,
+  write-value.Post,
+) (write-value-at t) write-value.Post write-value-Inv-loop write-value-μ-loop
+write-value-add-if2 t c = omega (arith, counting-few (c .before .before .before .before .loop .inv .count))
+
+write-value-write-value-requires : (t : ℕ) → write-value-lts.Need-write-value-requires (
+  arity-at-reads.Asked,
+  arity-at-reads.Learnt,
+  constructor-at-reads.Asked,
+  constructor-at-reads.Learnt,
+  argument-at-reads.Asked,
+  argument-at-reads.Learnt,
+  is-constant-reads.Asked,
+  is-constant-reads.Learnt,
+  write-value-below t,
+  write-value.Post,
+) (write-value-at t) write-value.Post write-value-Inv-loop write-value-μ-loop
+write-value-write-value-requires t c κs =
+    let at-loop = c .before .before .before .before .before .before in
+    let start = at-loop .before .before .before .before .before in
+    let i = at-loop .loop .inv in
+    let more = c .before .before .before .before .before .loop-test .taken in
+    let named = c .before .before .before .before .argument-at .ensures .0 in
+    let whole = counting-whole (i .count) more named in (
+      omega (arith, start .pre .0, visit-earlier (i .count .at) more named, i .count .low),
+      (visit-readable (i .count .at) more named, omega (arith, whole .0, simp length-set at (i .long), start .pre .1 .1)),
+    )
+
+write-value-add-j-2 : (t : ℕ) → write-value-lts.Need-add-j-2 (
+  arity-at-reads.Asked,
+  arity-at-reads.Learnt,
+  constructor-at-reads.Asked,
+  constructor-at-reads.Learnt,
+  argument-at-reads.Asked,
+  argument-at-reads.Learnt,
+  is-constant-reads.Asked,
+  is-constant-reads.Learnt,
+  write-value-below t,
+  write-value.Post,
+) (write-value-at t) write-value.Post write-value-Inv-loop write-value-μ-loop
+write-value-add-j-2 t c =
+    let at-loop = c .before .before .before .before .before .before .before .before .before in
+    omega (arith, counting-few (at-loop .loop .inv .count))
 
 write-value-loop-less-2 : (t : ℕ) → write-value-lts.Need-loop-less-2 (
   arity-at-reads.Asked,
@@ -287,13 +320,12 @@ write-value-loop-less-2 : (t : ℕ) → write-value-lts.Need-loop-less-2 (
   constructor-at-reads.Learnt,
   argument-at-reads.Asked,
   argument-at-reads.Learnt,
+  is-constant-reads.Asked,
+  is-constant-reads.Learnt,
   write-value-below t,
   write-value.Post,
 ) (write-value-at t) write-value.Post write-value-Inv-loop write-value-μ-loop
-write-value-loop-less-2 t c =
-    let named = c .before .before .before .argument-at .ensures .0 in
-    let at = c .before .before .before .before .before .loop .inv .count .at in
-    omega (arith, visit-few at (omega arith) named (c .arity-at2 .ensures), visit-earlier at (omega arith) named)
+write-value-loop-less-2 t c = omega (arith, c .before .before .before .before .before .before .before .before .loop-test .taken)
 
 write-value-loop-again-2 : (t : ℕ) → write-value-lts.Need-loop-again-2 (
   arity-at-reads.Asked,
@@ -302,13 +334,140 @@ write-value-loop-again-2 : (t : ℕ) → write-value-lts.Need-loop-again-2 (
   constructor-at-reads.Learnt,
   argument-at-reads.Asked,
   argument-at-reads.Learnt,
+  is-constant-reads.Asked,
+  is-constant-reads.Learnt,
   write-value-below t,
   write-value.Post,
 ) (write-value-at t) write-value.Post write-value-Inv-loop write-value-μ-loop
 write-value-loop-again-2 t c =
-    let named = c .before .before .before .argument-at .ensures .0 in
-    let l = c .before .before .before .before .before .loop in
-    writing-last (l .inv) (omega arith) named (simp length-set) (omega arith) (c .arity-at2 .ensures)
+    let w = c .before .before .write-value in
+    let i = c .before .before .before .before .before .before .before .before .before .loop .inv in
+    let more = c .before .before .before .before .before .before .before .before .loop-test .taken in
+    let named = c .before .before .before .before .before .before .before .argument-at .ensures .0 in
+    writing-next i more named (w .kept .1 .1 .0) (w .ensures .0) (w .ensures .1)
+
+write-value-constructor-at-requires-2 : (t : ℕ) → write-value-lts.Need-constructor-at-requires-2 (
+  arity-at-reads.Asked,
+  arity-at-reads.Learnt,
+  constructor-at-reads.Asked,
+  constructor-at-reads.Learnt,
+  argument-at-reads.Asked,
+  argument-at-reads.Learnt,
+  is-constant-reads.Asked,
+  is-constant-reads.Learnt,
+  write-value-below t,
+  write-value.Post,
+) (write-value-at t) write-value.Post write-value-Inv-loop write-value-μ-loop
+write-value-constructor-at-requires-2 t c κs =
+    let at = c .before .before .before .before .before .loop .inv .count .at in
+    let more = c .before .before .before .before .loop-test .taken in
+    let r = visit-readable at more (c .before .before .before .argument-at .ensures .0) in
+    (r .room, r .small)
+
+write-value-cast-out-3 : (t : ℕ) → write-value-lts.Need-cast-out-3 (
+  arity-at-reads.Asked,
+  arity-at-reads.Learnt,
+  constructor-at-reads.Asked,
+  constructor-at-reads.Learnt,
+  argument-at-reads.Asked,
+  argument-at-reads.Learnt,
+  is-constant-reads.Asked,
+  is-constant-reads.Learnt,
+  write-value-below t,
+  write-value.Post,
+) (write-value-at t) write-value.Post write-value-Inv-loop write-value-μ-loop
+write-value-cast-out-3 t c =
+    let at = c .before .before .before .before .before .before .loop .inv .count .at in
+    let more = c .before .before .before .before .before .loop-test .taken in
+    let r = visit-readable at more (c .before .before .before .before .argument-at .ensures .0) in
+    omega (arith, label-known _ _ _ r, c .constructor-at2 .ensures .0)
+
+write-value-slice-write-out-3 : (t : ℕ) → write-value-lts.Need-slice-write-out-3 (
+  arity-at-reads.Asked,
+  arity-at-reads.Learnt,
+  constructor-at-reads.Asked,
+  constructor-at-reads.Learnt,
+  argument-at-reads.Asked,
+  argument-at-reads.Learnt,
+  is-constant-reads.Asked,
+  is-constant-reads.Learnt,
+  write-value-below t,
+  write-value.Post,
+) (write-value-at t) write-value.Post write-value-Inv-loop write-value-μ-loop
+write-value-slice-write-out-3 t c =
+    let at-loop = c .before .before .before .before .before .before in
+    let start = at-loop .before .before .before .before .before in
+    let i = at-loop .loop .inv in
+    let more = c .before .before .before .before .before .loop-test .taken in
+    let whole = counting-whole (i .count) more (c .before .before .before .before .argument-at .ensures .0) in
+    omega (arith, whole .0, whole .1, simp length-set at (i .long), start .pre .1 .1)
+
+write-value-add-next-3 : (t : ℕ) → write-value-lts.Need-add-next-3 (
+  arity-at-reads.Asked,
+  arity-at-reads.Learnt,
+  constructor-at-reads.Asked,
+  constructor-at-reads.Learnt,
+  argument-at-reads.Asked,
+  argument-at-reads.Learnt,
+  is-constant-reads.Asked,
+  is-constant-reads.Learnt,
+  write-value-below t,
+  write-value.Post,
+) (write-value-at t) write-value.Post write-value-Inv-loop write-value-μ-loop
+write-value-add-next-3 t c = search needs
+
+write-value-arity-at-requires-2 : (t : ℕ) → write-value-lts.Need-arity-at-requires-2 (
+  arity-at-reads.Asked,
+  arity-at-reads.Learnt,
+  constructor-at-reads.Asked,
+  constructor-at-reads.Learnt,
+  argument-at-reads.Asked,
+  argument-at-reads.Learnt,
+  is-constant-reads.Asked,
+  is-constant-reads.Learnt,
+  write-value-below t,
+  write-value.Post,
+) (write-value-at t) write-value.Post write-value-Inv-loop write-value-μ-loop
+write-value-arity-at-requires-2 t c κs =
+    let at = c .before .before .before .before .before .before .loop .inv .count .at in
+    let more = c .before .before .before .before .before .loop-test .taken in
+    visit-readable at more (c .before .before .before .before .argument-at .ensures .0)
+
+write-value-loop-less-3 : (t : ℕ) → write-value-lts.Need-loop-less-3 (
+  arity-at-reads.Asked,
+  arity-at-reads.Learnt,
+  constructor-at-reads.Asked,
+  constructor-at-reads.Learnt,
+  argument-at-reads.Asked,
+  argument-at-reads.Learnt,
+  is-constant-reads.Asked,
+  is-constant-reads.Learnt,
+  write-value-below t,
+  write-value.Post,
+) (write-value-at t) write-value.Post write-value-Inv-loop write-value-μ-loop
+write-value-loop-less-3 t c =
+    let at = c .before .before .before .before .before .before .before .loop .inv .count .at in
+    let more = c .before .before .before .before .before .before .loop-test .taken in
+    let named = c .before .before .before .before .before .argument-at .ensures .0 in
+    omega (arith, visit-few at more named (c .arity-at2 .ensures), visit-earlier at more named)
+
+write-value-loop-again-3 : (t : ℕ) → write-value-lts.Need-loop-again-3 (
+  arity-at-reads.Asked,
+  arity-at-reads.Learnt,
+  constructor-at-reads.Asked,
+  constructor-at-reads.Learnt,
+  argument-at-reads.Asked,
+  argument-at-reads.Learnt,
+  is-constant-reads.Asked,
+  is-constant-reads.Learnt,
+  write-value-below t,
+  write-value.Post,
+) (write-value-at t) write-value.Post write-value-Inv-loop write-value-μ-loop
+write-value-loop-again-3 t c =
+    let l = c .before .before .before .before .before .before .before .loop in
+    let more = c .before .before .before .before .before .before .loop-test .taken in
+    let named = c .before .before .before .before .before .argument-at .ensures .0 in
+    writing-last (l .inv) more named (simp length-set) (c .before .before .if2 .left) (c .arity-at2 .ensures)
     (ap (set (l .out) (l .next)) (c .before .constructor-at2 .ensures .0))
 
 write-value-same-length : (t : ℕ) → write-value-lts.Need-same-length (
@@ -318,6 +477,8 @@ write-value-same-length : (t : ℕ) → write-value-lts.Need-same-length (
   constructor-at-reads.Learnt,
   argument-at-reads.Asked,
   argument-at-reads.Learnt,
+  is-constant-reads.Asked,
+  is-constant-reads.Learnt,
   write-value-below t,
   write-value.Post,
 ) (write-value-at t) write-value.Post write-value-Inv-loop write-value-μ-loop
@@ -330,6 +491,8 @@ write-value-returns : (t : ℕ) → write-value-lts.Need-returns (
   constructor-at-reads.Learnt,
   argument-at-reads.Asked,
   argument-at-reads.Learnt,
+  is-constant-reads.Asked,
+  is-constant-reads.Learnt,
   write-value-below t,
   write-value.Post,
 ) (write-value-at t) write-value.Post write-value-Inv-loop write-value-μ-loop
@@ -338,7 +501,7 @@ write-value-returns t c =
     let start = at-constructor-at .before .before .before .before in
     let x = start .args in
     let behind : List ℕ = rest (x .index .now) (x .cells .now) (x .k) 0 in
-    let e = writing-end (c .before .loop .inv) (omega arith) in (
+    let e = writing-end (c .before .loop .inv) (c .loop-test .left) in (
       e .0,
       e .1 ∙ ap (λ (y : ℕ). sets (set (x .out .now) (x .at) y) (x .at + 1) behind) (at-constructor-at .constructor-at .ensures .0)
           ∙ sym (sets-all (x .index .now) (x .cells .now) (x .k) (start .pre .1 .0) (x .out .now) (x .at)),
@@ -352,6 +515,8 @@ pub +write-value-spec : {M : Type 1} → statement M
   constructor-at-reads.Learnt,
   argument-at-reads.Asked,
   argument-at-reads.Learnt,
+  is-constant-reads.Asked,
+  is-constant-reads.Learnt,
   write-value-below t,
   write-value.Post,
 )
@@ -366,17 +531,24 @@ pub +write-value-spec : {M : Type 1} → statement M
     (write-value-add-next t)
     (write-value-loop-holds t)
     (write-value-argument-at-requires t)
-    (write-value-add-if1 t)
-    (write-value-write-value-requires t)
-    (write-value-add-j t)
-    (write-value-loop-less t)
-    (write-value-loop-again t)
-    (write-value-constructor-at-requires-2 t)
+    (write-value-is-constant-requires t)
     (write-value-cast-out-2 t)
     (write-value-slice-write-out-2 t)
     (write-value-add-next-2 t)
-    (write-value-arity-at-requires-2 t)
+    (write-value-add-j t)
+    (write-value-loop-less t)
+    (write-value-loop-again t)
+    (write-value-add-if2 t)
+    (write-value-write-value-requires t)
+    (write-value-add-j-2 t)
     (write-value-loop-less-2 t)
     (write-value-loop-again-2 t)
+    (write-value-constructor-at-requires-2 t)
+    (write-value-cast-out-3 t)
+    (write-value-slice-write-out-3 t)
+    (write-value-add-next-3 t)
+    (write-value-arity-at-requires-2 t)
+    (write-value-loop-less-3 t)
+    (write-value-loop-again-3 t)
     (write-value-same-length t)
     (write-value-returns t)

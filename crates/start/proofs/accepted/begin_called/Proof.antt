@@ -1,8 +1,11 @@
 -- `begin_called` meets its contract: frames, stack and cells are tested in this order; then the start fits and the arguments are loaded.
+use mathlib.Core.Path.{sym, _∙_}
 use native.Mathlib.Omega.{arith}
+use borrow.Author.Tests.{leb-false, leb-true, not-false, not-true}
 use Rattle.rules.specs.Records.{programIn}
+use Rattle.rules.specs.Run.{cellsLoaded}
 use Rattle.start.proofs.CallLaws.{few-functions, inputs-are, out-of-frames, out-of-stack, out-of-cells, fitting}
-use Rattle.start.proofs.LoadLaws.{loading}
+use Rattle.start.proofs.LoadLaws.{callable-loading, loading}
 use Rattle.start.proofs.PrepareLaws.{fits-some, refused-prepares, begun-prepares}
 use borrow.Author.Needs.{needs}
 use Rattle.start.proofs.accepted.begin_called.Statement.{statement}
@@ -43,17 +46,27 @@ returns-2 c =
       inputs-are k (at-function-arity .function-arity .ensures),
     )))
 
+enough-requires : tie.Need-enough-requires
+enough-requires c κs =
+    let (file, k) = c .before .before .before .before .before .before .before .before .before .before .before .pre .0 in
+    (programIn file, callable-loading k)
+
 not-begun-requires-3 : tie.Need-not-begun-requires-3
 not-begun-requires-3 c κs = search needs
 
 returns-3 : tie.Need-returns-3
 returns-3 c =
     let at-if3 = c .before in
-    let at-if2 = at-if3 .before .before in
+    let at-enough = at-if3 .before in
+    let at-if2 = at-enough .before .before in
     let at-if1 = at-if2 .before .before in
     let at-function-arity = at-if1 .before .before in
     let at-usable = at-function-arity .before .before in
-    λ file small k. refused-prepares (c .not-begun3 .ensures) (λ frames out l. out-of-cells k _ _ _ frames out
+    let start = at-usable .before .before .before .before in
+    λ file small k.
+    let short = leb-false (cellsLoaded (programIn file) (start .args .arguments .now)) (at-usable .usable .result .cells)
+    (sym (at-enough .enough .ensures (programIn file) (callable-loading k)) ∙ not-true _ (at-if3 .if3 .taken)) in
+    refused-prepares (c .not-begun3 .ensures) (λ frames out l. out-of-cells k _ _ _ frames out
     (omega (arith, l, at-usable .usable .ensures .2, at-if1 .if1 .left))
     (omega (
       arith,
@@ -61,20 +74,23 @@ returns-3 c =
       at-if2 .if2 .left,
       inputs-are k (at-function-arity .function-arity .ensures),
     ))
-    (omega (arith, at-usable .usable .ensures .0, at-if3 .if3 .taken)))
+    (omega (arith, at-usable .usable .ensures .0, short)))
 
 load-requires : tie.Need-load-requires
 load-requires c κs =
     let at-if3 = c .before .before .before in
-    let at-if2 = at-if3 .before .before in
+    let at-enough = at-if3 .before in
+    let at-if2 = at-enough .before .before in
     let at-if1 = at-if2 .before .before in
     let at-function-arity = at-if1 .before .before in
     let at-usable = at-function-arity .before .before in
     let start = at-usable .before .before .before .before in
-    let k = start .pre .0 .1 in
+    let (file, k) = start .pre .0 in
+    let told = at-enough .enough .ensures (programIn file) (callable-loading k) in
+    let room = leb-true _ _ (sym told ∙ not-false _ (at-if3 .if3 .left)) in
     let fits = fitting k _ _ _ _ (start .pre .1) (at-usable .usable .ensures) (at-function-arity .function-arity .ensures)
-    (omega (arith, at-if1 .if1 .left)) (omega (arith, at-if2 .if2 .left)) (omega (arith, at-if3 .if3 .left)) in
-    ((programIn (start .pre .0 .0), loading (fits-some fits)), few-functions k)
+    (omega (arith, at-if1 .if1 .left)) (omega (arith, at-if2 .if2 .left)) room in
+    ((programIn file, loading (fits-some fits)), few-functions k)
 
 begun-requires : tie.Need-begun-requires
 begun-requires c κs = search needs
@@ -89,16 +105,20 @@ returns-4 : tie.Need-returns-4
 returns-4 c =
     let at-load = c .before .before .before .before .before in
     let at-if3 = at-load .before .before .before .before in
-    let at-if2 = at-if3 .before .before in
+    let at-enough = at-if3 .before in
+    let at-if2 = at-enough .before .before in
     let at-if1 = at-if2 .before .before in
     let at-function-arity = at-if1 .before .before in
     let at-usable = at-function-arity .before .before in
     let start = at-usable .before .before .before .before in
     λ file small k.
+    let told = at-enough .enough .ensures (programIn file) (callable-loading k) in
+    let room = leb-true _ _ (sym told ∙ not-false _ (at-if3 .if3 .left)) in
     let fits = fitting k _ _ _ _ (start .pre .1) (at-usable .usable .ensures) (at-function-arity .function-arity .ensures)
-    (omega (arith, at-if1 .if1 .left)) (omega (arith, at-if2 .if2 .left)) (omega (arith, at-if3 .if3 .left)) in
-    begun-prepares (c .begun .ensures) small fits (at-load .load .ensures .1 (programIn file) (loading (fits-some fits)))
-    (at-load .load .ensures .0)
+    (omega (arith, at-if1 .if1 .left)) (omega (arith, at-if2 .if2 .left)) room in
+    let l = loading (fits-some fits) in
+    begun-prepares (c .begun .ensures) small fits (at-load .load .ensures .1 (programIn file) l)
+    (at-load .load .ensures .0 (programIn file) l)
 
 pub begin-called-spec : {M : Type 1} → statement M
 begin-called-spec =
@@ -110,6 +130,7 @@ begin-called-spec =
     returns
     not-begun-requires-2
     returns-2
+    enough-requires
     not-begun-requires-3
     returns-3
     load-requires

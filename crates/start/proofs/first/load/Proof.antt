@@ -1,6 +1,6 @@
 -- `load` meets its contract: the pending references that are left have one value for each parameter.
 use native.Mathlib.Omega.{arith}
-use Rattle.start.proofs.LoadLaws.{loading-arguments, few-bytes, pending-end, loaded}
+use Rattle.start.proofs.LoadLaws.{loading-arguments, pending-end, loaded}
 use borrow.Author.Needs.{needs}
 use Rattle.start.proofs.first.load.Statement.{statement}
 use Rattle.start.proofs.first.load.Tie as tie
@@ -8,7 +8,7 @@ use Rattle.start.proofs.first.load.Tie as tie
 make-arguments-requires : tie.Need-make-arguments-requires
 make-arguments-requires c κs =
     let (s, l) = c .before .before .before .before .pre .0 in
-    ((s, loading-arguments l), (few-bytes l, l .room))
+    (s, loading-arguments l)
 
 slice-aggregate-copy : tie.Need-slice-aggregate-copy
 slice-aggregate-copy c = search needs
@@ -33,7 +33,7 @@ returns : tie.Need-returns
 returns c =
     let at-copy = c .before .before .before in
     let at-make-arguments = at-copy .before .before .before .before .before .before in (
-      rw (c .code-at .ensures),
+      λ s l. rw (c .code-at .ensures, at-make-arguments .make-arguments .ensures s (loading-arguments l) .taken),
       λ s l. loaded l (at-make-arguments .make-arguments .ensures s (loading-arguments l)) (at-copy .copy .ensures),
     )
 

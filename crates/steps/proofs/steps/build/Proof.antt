@@ -1,8 +1,9 @@
--- The cell takes the place of its arguments on the stack, or a table is full.
-use native.Mathlib.Omega.{arith}
+-- A constant is its own reference. A cell takes the place of its arguments on the stack, or a table is full.
 use Prim.Native.Nat.{_+_}
+use mathlib.Core.Path.{_∙_, sym}
+use native.Mathlib.Omega.{arith}
 use Rattle.store.proofs.CellLaws.{room-less}
-use Rattle.steps.specs.Steps.{build-full, build-short, build-goes}
+use Rattle.steps.specs.Steps.{build-full, build-constant, build-short, build-goes}
 use borrow.Author.Needs.{needs}
 use Rattle.steps.proofs.steps.build.Statement.{statement}
 use Rattle.steps.proofs.steps.build.Tie as tie
@@ -19,25 +20,6 @@ paused-requires c κs = search needs
 returns : tie.Need-returns
 returns c = rw (c .paused .ensures) (build-full (omega arith))
 
-paused-requires-2 : tie.Need-paused-requires-2
-paused-requires-2 c κs = search needs
-
-returns-2 : tie.Need-returns-2
-returns-2 c = rw (c .paused2 .ensures) (build-short (omega arith) (omega arith))
-
-cast-put-cell : tie.Need-cast-put-cell
-cast-put-cell c = search needs
-
-put-cell-requires : tie.Need-put-cell-requires
-put-cell-requires c κs =
-    let start = c .before .before .before .before .before .before .before .before .before .before in
-    let lent = start .pre .0 in (
-      room-less (start .args .cells .now) (start .args .m .cells) (start .args .r .used + 1) (lent .cell-room) (omega arith),
-      omega (arith, lent .few-cells),
-      omega arith,
-      omega (arith, lent .stack-room),
-    )
-
 cast-stack : tie.Need-cast-stack
 cast-stack c = search needs
 
@@ -53,20 +35,66 @@ add-went c = search needs
 went-requires : tie.Need-went-requires
 went-requires c κs = search needs
 
-add-t : tie.Need-add-t
-add-t c = search needs
-
 same-length : tie.Need-same-length
 same-length c = search needs
+
+returns-2 : tie.Need-returns-2
+returns-2 c =
+    let at-if2 = c .before in
+    let arity = at-if2 .before .before .before .before .constructor-arity .ensures in
+    rw (c .went .ensures, arity) (build-constant (omega arith) (sym arity ∙ at-if2 .if2 .taken))
+
+paused-requires-2 : tie.Need-paused-requires-2
+paused-requires-2 c κs = search needs
+
+returns-3 : tie.Need-returns-3
+returns-3 c =
+    let at-if2 = c .before .before .before in
+    let arity = at-if2 .before .before .before .before .constructor-arity .ensures in
+    rw (c .paused2 .ensures) (build-short (omega arith) (λ e. at-if2 .if2 .left (arity ∙ e)) (omega arith))
+
+cast-put-cell : tie.Need-cast-put-cell
+cast-put-cell c = search needs
+
+put-cell-requires : tie.Need-put-cell-requires
+put-cell-requires c κs =
+    let start = c .before .before .before .before .before .before .before .before .before .before .before in
+    let lent = start .pre .0 in (
+      room-less (start .args .cells .now) (start .args .m .cells) (start .args .r .used + 1) (lent .cell-room) (omega arith),
+      omega (arith, lent .few-cells),
+      omega arith,
+      omega (arith, lent .stack-room),
+    )
+
+mul-stack-2 : tie.Need-mul-stack-2
+mul-stack-2 c = search needs
+
+slice-write-stack-2 : tie.Need-slice-write-stack-2
+slice-write-stack-2 c = search needs
+
+add-went-2 : tie.Need-add-went-2
+add-went-2 c = search needs
+
+went-requires-2 : tie.Need-went-requires-2
+went-requires-2 c κs = search needs
+
+add-t : tie.Need-add-t
+add-t c = search needs
 
 same-length-2 : tie.Need-same-length-2
 same-length-2 c = search needs
 
-returns-3 : tie.Need-returns-3
-returns-3 c =
+same-length-3 : tie.Need-same-length-3
+same-length-3 c = search needs
+
+returns-4 : tie.Need-returns-4
+returns-4 c =
     let at-put-cell = c .before .before .before in
-    let arity = at-put-cell .before .before .before .before .before .before .before .before .constructor-arity .ensures in
-    rw (c .went .ensures, arity) (build-goes (omega arith) (omega arith) (rw arity at (at-put-cell .put-cell .ensures)))
+    let at-if2 = at-put-cell .before .before .before .before .before in
+    let arity = at-if2 .before .before .before .before .constructor-arity .ensures in
+    let put = at-put-cell .put-cell .ensures in
+    rw (c .went2 .ensures, put .0, arity)
+    (build-goes (omega arith) (λ e. at-if2 .if2 .left (arity ∙ e)) (omega arith) (rw arity at (put .1)))
 
 pub build-spec : {M : Type 1} → statement M
 build-spec =
@@ -76,16 +104,22 @@ build-spec =
     sub-from
     paused-requires
     returns
-    paused-requires-2
-    returns-2
-    cast-put-cell
-    put-cell-requires
     cast-stack
     mul-stack
     slice-write-stack
     add-went
     went-requires
-    add-t
     same-length
+    returns-2
+    paused-requires-2
+    returns-3
+    cast-put-cell
+    put-cell-requires
+    mul-stack-2
+    slice-write-stack-2
+    add-went-2
+    went-requires-2
+    add-t
     same-length-2
-    returns-3)
+    same-length-3
+    returns-4)

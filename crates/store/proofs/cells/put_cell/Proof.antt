@@ -1,4 +1,4 @@
--- A constructor, zeros, and arguments in their place are a cell.
+-- A constructor, zeros, and arguments in their place are a cell. Its number is the cell's place behind the constants.
 use Prim.Native.Nat.{_*_}
 use mathlib.Core.Path.{_∙_}
 use native.Mathlib.Omega.{arith}
@@ -27,7 +27,7 @@ clear-four-requires : tie.Need-clear-four-requires
 unfolding CellRoom
 clear-four-requires c κs =
     let a = c .before .before .before .args in
-    omega (arith, length-set (a .cells .now) (5 * a .k) (a .c))
+    omega (arith, length-set (a .cells .now) (5 * a .i) (a .c))
 
 add-copy : tie.Need-add-copy
 add-copy c = search needs
@@ -38,23 +38,31 @@ copy-requires c κs =
     let at-clear-four = c .before .before .before in
     let a = at-clear-four .before .before .before .before .args in (
       omega arith,
-      omega (arith, length-set (a .cells .now) (5 * a .k) (a .c), at-clear-four .clear-four .ensures .len),
+      omega (arith, length-set (a .cells .now) (5 * a .i) (a .c), at-clear-four .clear-four .ensures .len),
       omega arith,
     )
+
+add-result : tie.Need-add-result
+add-result c = search needs
+
+cast-result : tie.Need-cast-result
+cast-result c = search needs
 
 same-length : tie.Need-same-length
 same-length c =
     let at-clear-four = c .before .before .before .before .before .before in
     let a = at-clear-four .before .before .before .before .args in
-    c .before .before .copy .ensures .len ∙ at-clear-four .clear-four .ensures .len ∙ length-set (a .cells .now) (5 * a .k) (a .c)
+    c .before .before .copy .ensures .len ∙ at-clear-four .clear-four .ensures .len ∙ length-set (a .cells .now) (5 * a .i) (a .c)
 
 returns : tie.Need-returns
 unfolding CellRoom
 returns c =
     let at-clear-four = c .before .before .before .before .before .before in
-    let a = at-clear-four .before .before .before .before .args in
-    placed (a .k) (a .c) _ (a .cells .now) _ _ (omega arith) (omega (arith, length-refs (a .stack .now) (a .from) (a .n)))
-    (at-clear-four .clear-four .ensures) (c .before .before .copy .ensures)
+    let a = at-clear-four .before .before .before .before .args in (
+      omega arith,
+      placed (a .i) (a .c) _ (a .cells .now) _ _ (omega arith) (omega (arith, length-refs (a .stack .now) (a .from) (a .n)))
+          (at-clear-four .clear-four .ensures) (c .before .before .copy .ensures),
+    )
 
 pub put-cell-spec : {M : Type 1} → statement M
 put-cell-spec =
@@ -67,5 +75,7 @@ put-cell-spec =
     clear-four-requires
     add-copy
     copy-requires
+    add-result
+    cast-result
     same-length
     returns)
