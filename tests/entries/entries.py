@@ -1,8 +1,8 @@
 """Holds the functions that have a `requires` to what docs/PROMISES.md says of them."""
 import collections, glob, os, re, sys
 
-Function = collections.namedtuple('Function', 'crate file name public asks comment')
-FN = re.compile(r'^(pub )?(?:extern "C" )?fn (\w+)(?:<[^>]*>)?\(', re.M)
+Function = collections.namedtuple('Function', 'crate file name public exported asks comment')
+FN = re.compile(r'^(pub )?(extern "C" )?fn (\w+)(?:<[^>]*>)?\(', re.M)
 
 
 def read(path):
@@ -17,7 +17,7 @@ def functions(path, text):
         comment = []
         while above and above[-1].startswith('//'):
             comment.insert(0, above.pop())
-        yield Function(path.split('/')[1], os.path.basename(path)[:-3], m[2], bool(m[1]),
+        yield Function(path.split('/')[1], os.path.basename(path)[:-3], m[3], bool(m[1]), bool(m[2]),
                        len(re.findall(r'^\s*requires \{', text[m.start():end], re.M)), comment)
 
 
@@ -35,6 +35,15 @@ def tables(promises):
     return entries, dict(re.findall(r'^\| `(\w+)` \| (.*?) \|', above.split('\n\n')[0], re.M))
 
 
+def callers(texts):
+    """For each name the crates that call a function so named; a function that other crates cannot name is called in its own."""
+    called = collections.defaultdict(set)
+    for path, text in texts.items():
+        for name in re.findall(r'(?<!fn )\b(\w+)\(', re.sub('//.*', '', text)):
+            called[name].add(path.split('/')[1])
+    return called
+
+
 def wrong(found, texts, entries, listed):
     for crate, name in entries:
         of = [f for f in found if (f.crate, f.name) == (crate, name) and f.public]
@@ -43,9 +52,11 @@ def wrong(found, texts, entries, listed):
         for f in of:
             if f.asks:
                 yield '%s::%s is public and has a requires' % (crate, name)
-    calls = collections.Counter(name for text in texts.values() for name in re.findall(r'(?<!fn )\b(\w+)\(', re.sub('//.*', '', text)))
+    called = callers(texts)
     for f in found:
-        if f.asks and not calls[f.name]:
+        if f.exported and (f.crate, f.name) not in entries:
+            yield '%s::%s is exported and not listed as public' % (f.crate, f.name)
+        if f.asks and not (called[f.name] if reachable(f, texts) else called[f.name] & {f.crate}):
             yield '%s::%s has a requires and no caller' % (f.crate, f.name)
         if f.asks and reachable(f, texts) and not (f.comment and f.comment[0].startswith('// For the crates above')):
             yield '%s::%s does not say that it is for the crates above' % (f.crate, f.name)
