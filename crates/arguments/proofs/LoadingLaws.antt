@@ -57,10 +57,6 @@ one-cell : (n : ℕ) → 0 < n → oneUnlessConstant n ≡ 1
 one-cell zero h = absurd (omega arith)
 one-cell (suc n) h = refl
 
-pos-of : (n : ℕ) → (n ≡ 0 → ⊥) → 0 < n
-pos-of zero h = absurd (h refl)
-pos-of (suc n) h = omega arith
-
 ---- One byte
 
 module _ (s : Program) (index bytes : List ℕ) (a : Loading s index bytes) (i : ℕ) (inside : i < length bytes) where
@@ -249,7 +245,7 @@ module _ (s : Program) (index bytes : List ℕ) (a : Loading s index bytes) (i :
     counted-constant none = omega (arith, counted-byte, ap oneUnlessConstant none)
 
     pub counted-cell : (n′ ≡ 0 → ⊥) → cellsLoaded s (drop (i - 1) bytes) ≡ 1 + cellsLoaded s (drop i bytes)
-    counted-cell any = omega (arith, counted-byte, one-cell n′ (pos-of n′ any))
+    counted-cell any = omega (arith, counted-byte, one-cell n′ (omega (arith, any)))
 
     module _ (used : ℕ) (cells cells′ numbers : List ℕ) (at : ℕ) (x : MadeFrom s bytes i used cells cells′ numbers at) where
       before : MadeFrom s bytes (i - 1 + 1) used cells cells′ numbers at
@@ -275,4 +271,4 @@ module _ (s : Program) (index bytes : List ℕ) (a : Loading s index bytes) (i :
           let p₂ = subst (λ (y : ℕ). CellPut used (getD bytes (i - 1) 0) (refs numbers at y) cells′ cells″) (arity-read .0) p₁ in
           rw (arity-read .0, add-one)
           (cell-more s index bytes a (i - 1) (omega arith) used cells cells′ numbers at before long
-          (omega (arith, arity-read .0, pos-of n′ any)) cells″ p₂)
+          (omega (arith, arity-read .0, any)) cells″ p₂)

@@ -5,18 +5,13 @@ use mathlib.Core.List.{List, [], _∷_}
 use mathlib.Core.Option.{some}
 use native.Mathlib.Nat.{not-suc-le-zero, le-of-suc-le-suc}
 use lib.ListN.{length, getElem?}
-use Rattle.rules.specs.Prefix.{arity, arityOf}
-use Rattle.rules.specs.Program.{Constructor, Function, Program, constructor, function}
+use Rattle.rules.specs.Program.{Function, Program, function}
 use Rattle.fetch.specs.Arities.{inputs, inputsOf}
 
 pub get-some : {A : Type 0} (l : List A) (i : ℕ) → i < length l → (x : A) × (getElem? l i ≡ some x)
 get-some [] i h = absurd (not-suc-le-zero h)
 get-some (x ∷ xs) zero h = (x, refl)
 get-some (x ∷ xs) (suc i) h = get-some xs i (le-of-suc-le-suc h)
-
-pub arity-is : (s : Program) (c : ℕ) {k : Constructor} → constructor s c ≡ some k → arity s c ≡ length (k .arguments)
-unfolding arityOf
-arity-is s c e = rw e
 
 pub inputs-is : (s : Program) (f : ℕ) {k : Function} → function s f ≡ some k → inputs s f ≡ length (k .parameters)
 unfolding inputsOf

@@ -23,10 +23,11 @@ use Rattle.rules.proofs.ListLaws.{some-inj, and-left, and-right, none-some, at-
 use Rattle.rules.proofs.NumberedLaws.{numbered-length, numbered-at}
 use Rattle.rules.proofs.RecordLaws.{arguments-length, records-there}
 use Rattle.rules.proofs.MachineLaws.{bind-some}
+use Rattle.rules.proofs.PrefixLaws.{arity-is}
 use Rattle.fetch.specs.Indexed.{Indexed, constructorArity, functionArity, codeAt}
 use Rattle.fetch.specs.Places.{StandsAt}
 use Rattle.fetch.specs.Arities.{inputs, place, NumbersInRange}
-use Rattle.fetch.proofs.ArityLaws.{arity-is, inputs-is}
+use Rattle.fetch.proofs.ArityLaws.{inputs-is}
 use Rattle.fetch.proofs.PlaceLaws.{place-inside, place-offset, place-small}
 
 module _ (bytes : List ℕ) where

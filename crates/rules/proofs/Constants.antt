@@ -16,13 +16,13 @@ use Rattle.rules.specs.Check.{checked}
 use Rattle.rules.specs.Prefix.{argumentsRight, arity, values}
 use Rattle.rules.specs.Run.{Lent, Tables, CellRule, everyOne, withArguments, usableBy, cellsTakenBy, cellsLoadedBy, Ending}
 use Rattle.rules.specs.Run.{refusedWith, Outcome, answer, fits, refusalAt, endOf, Point, stepWithinBy, continuedBy, loadedBy}
-use Rattle.rules.specs.Run.{startedBy, deliveredIn, delivered}
+use Rattle.rules.specs.Run.{startedBy, delivered}
 use Rattle.rules.specs.Memory.{resultInto}
 use Rattle.rules.specs.Promise.{takesBy, buildsBy, Room, NoRoom, frames, stack, heap}
-use Rattle.rules.specs.Constants.{GaveBut15, Gives15, nowNeeds, before, now, ConstantsFact}
+use Rattle.rules.specs.Constants.{Gives15, nowNeeds, before, now, ConstantsFact}
 use Rattle.rules.proofs.RunLaws.{fits-found, fits-refused, step-within, continued-ended, continued-spent, continued-short}
 use Rattle.rules.proofs.RunLaws.{continued-on, started-refused, started-loaded, load-no-entry, load-bad-arguments, load-no-room}
-use Rattle.rules.proofs.RunLaws.{load-begins, run-refused, run-checked}
+use Rattle.rules.proofs.RunLaws.{load-begins, refusal-delivered, run-refused, run-checked}
 use Rattle.rules.proofs.Promise.{place-number}
 
 ---- The rule before is the base's: every argument byte and every build takes a cell
@@ -179,7 +179,7 @@ module _ (old new : CellRule) (s : Program) (fewer : (n : ℕ) → new .taken n 
     -- the rest of a run, which before took k steps more: the cells in use now are at most those before, and can be used
     abbrev Rest : ℕ → ℕ → State → ℕ → ℕ → ℕ → Type 0
     Rest left steps st cells cells′ k =
-        cells′ ≤ cells → cells′ ≤ new .most → GaveBut15 (continuedBy old s m left steps st cells)
+        cells′ ≤ cells → cells′ ≤ new .most → (Gives15 (continuedBy old s m left steps st cells) → ⊥)
         → continuedBy old s m left steps st cells .steps ≡ k + steps
         → Compared (new .most) (cells′ + buildsBy new s k st) (continuedBy new s w left steps st cells′)
         (continuedBy old s m left steps st cells)
@@ -239,8 +239,7 @@ module _ (old new : CellRule) (s : Program) (fewer : (n : ℕ) → new .taken n 
             short-now (omega (arith, need))
             (gives _ (refusalAt 15 st) steps (place-number 15 st) (continued-short new s w left steps st cells′ e q′))
         three ih e next h (short-cells q) =
-            absurd (but (refusalAt 15 st) (ap (λ (x : Outcome). x .ending) (continued-short old s m left steps st cells e q))
-            (place-number 15 st))
+            absurd (but (gives _ (refusalAt 15 st) steps (place-number 15 st) (continued-short old s m left steps st cells e q)))
         three ih e next h (short-alike number q q′) =
             ends-alike steps st cells′ k _ _ can took (continued-short new s w left steps st cells′ e q′)
             (continued-short old s m left steps st cells e q)
@@ -261,7 +260,7 @@ module _ (old new : CellRule) (s : Program) (fewer : (n : ℕ) → new .taken n 
         one ih none e = two ih e (step s st) refl
 
     -- from the start
-    started-compared : (budget entry : ℕ) (bytes : List ℕ) → GaveBut15 (startedBy old s m budget entry bytes)
+    started-compared : (budget entry : ℕ) (bytes : List ℕ) → (Gives15 (startedBy old s m budget entry bytes) → ⊥)
         → Compared (new .most) (needed new s bytes (startedBy old s m budget entry bytes .steps) (loadedBy old s m entry bytes))
         (startedBy new s w budget entry bytes) (startedBy old s m budget entry bytes)
     started-compared budget entry bytes but = one (function s entry) refl
@@ -289,7 +288,7 @@ module _ (old new : CellRule) (s : Program) (fewer : (n : ℕ) → new .taken n 
         three (over p q′ more) =
             short-now (rw p (omega arith)) (gives _ (refusal 15 entry 1) 0 refl (started-refused new s w budget entry bytes q′))
         three (short-cells q) =
-            absurd (but (refusal 15 entry 1) (ap (λ (x : Outcome). x .ending) (started-refused old s m budget entry bytes q)) refl)
+            absurd (but (gives _ (refusal 15 entry 1) 0 refl (started-refused old s m budget entry bytes q)))
         three (short-alike number q q′) = alike q′ q
 
         two : (f : Function) → function s entry ≡ some f → (t : Check) → argumentsRight s f bytes ≡ t → Goal
@@ -304,14 +303,9 @@ module _ (old new : CellRule) (s : Program) (fewer : (n : ℕ) → new .taken n 
 
 ---- The whole run
 
--- what is delivered of a refusal is that refusal
-gave-undelivered : (room : ℕ) (a : Outcome) → GaveBut15 (delivered room a) → GaveBut15 a
-unfolding delivered deliveredIn
-gave-undelivered room a h r e = h r (rw e)
-
+-- 15 is delivered as it is
 gives-delivered : (room : ℕ) (a : Outcome) → Gives15 a → Gives15 (delivered room a)
-unfolding delivered deliveredIn
-gives-delivered room a (r, e, n) = (r, rw e, n)
+gives-delivered room a (r, e, n) = (r, refusal-delivered room a r e, n)
 
 -- and an answer delivered keeps its steps, so what is needed is the same
 delivered-compared : (room most : ℕ) (need : ℕ → ℕ) (b a : Outcome) → Compared most (need (a .steps)) b a
@@ -333,7 +327,7 @@ module _ (file : List ℕ) (entry : ℕ) (arguments : List ℕ) (lent : Lent) wh
       one (found st) h = rw (e, h)
       one (refused r) h = rw (e, h)
 
-  run-compared : (budget : ℕ) → GaveBut15 (before file entry arguments budget lent)
+  run-compared : (budget : ℕ) → (Gives15 (before file entry arguments budget lent) → ⊥)
       → Compared 65471 (nowNeeds file entry arguments lent (before file entry arguments budget lent .steps))
       (now file entry arguments budget lent) (before file entry arguments budget lent)
   run-compared budget but = one (checked file) refl
@@ -346,7 +340,8 @@ module _ (file : List ℕ) (entry : ℕ) (arguments : List ℕ) (lent : Lent) wh
           (run-refused withArguments file entry arguments budget lent e ∙ sym (run-refused everyOne file entry arguments budget lent e))
       one (found s) e =
           let on = run-checked everyOne file entry arguments budget lent e in
-          let gave = gave-undelivered (lent .output) _ (rw on at but) in
+          let said : Outcome = startedBy everyOne s (usableBy everyOne lent) budget entry arguments in
+          let gave : Gives15 said → ⊥ = λ g. (rw on at but) (gives-delivered (lent .output) said g) in
           rw (
             needs-checked s e (before file entry arguments budget lent .steps),
             on,

@@ -14,12 +14,12 @@ use Rattle.rules.specs.Machine.{State, start, current, step}
 use Rattle.rules.specs.Check.{checked}
 use Rattle.rules.specs.Prefix.{argumentsRight, values}
 use Rattle.rules.specs.Run.{withArguments, Lent, Tables, usable, Ending, refusedWith, Outcome, heights, fits, cellsTaken, endOf}
-use Rattle.rules.specs.Run.{Point, cellsLoaded, stepWithinBy, stepWithin, continued, loaded, started, deliveredIn, delivered, run}
+use Rattle.rules.specs.Run.{Point, cellsLoaded, stepWithinBy, stepWithin, continued, loaded, started, run}
 use Rattle.rules.specs.Promise.{Room, NoRoom, frames, stack, heap}
 use Rattle.rules.specs.Facts.{RoomFact}
 use Rattle.rules.proofs.RunLaws.{fits-found, fits-refused, continued-ended, continued-spent, continued-short, continued-on}
 use Rattle.rules.proofs.RunLaws.{started-refused, started-loaded, load-no-entry, load-bad-arguments, load-no-room, load-begins}
-use Rattle.rules.proofs.RunLaws.{run-refused, run-checked}
+use Rattle.rules.proofs.RunLaws.{refusal-delivered, run-refused, run-checked}
 
 -- a number that is not for want of room in a table; and an ending that is no refusal for want of it
 abbrev NotTable : ℕ → Type 0
@@ -159,11 +159,6 @@ module _ (s : Program) (m w : Tables) (wider : Wider m w) where
       one (inr (r, e, short)) =
           absurd (short (h r (ap (λ (a : Outcome). a .ending) (started-refused withArguments s m budget entry bytes e))))
 
--- what is delivered of a refusal is that refusal
-delivered-else : (room : ℕ) (a : Outcome) → EndsElse (delivered room a .ending) → EndsElse (a .ending)
-unfolding delivered deliveredIn
-delivered-else room a h r e = h r (rw e)
-
 pub room-fact : RoomFact
 room-fact file entry arguments budget lent more c t f o h = one (checked file) refl
   where
@@ -173,6 +168,7 @@ room-fact file entry arguments budget lent more c t f o h = one (checked file) r
         ∙ sym (run-refused withArguments file entry arguments budget lent e)
     one (found s) e =
         let on = run-checked withArguments file entry arguments budget lent e in
-        let ends = delivered-else (lent .output) (started s (usable lent) budget entry arguments) (rw on at h) in
+        let said : Outcome = started s (usable lent) budget entry arguments in
+        let ends : EndsElse (said .ending) = λ r q. (rw on at h) r (refusal-delivered (lent .output) said r q) in
         let same = started-same s (usable lent) (usable more) (usable-wider lent more c t f) budget entry arguments ends in
         run-checked withArguments file entry arguments budget more e ∙ rw (← o, same) (sym on)

@@ -14,7 +14,7 @@ use Rattle.rules.specs.Machine.{State, start, current, step}
 use Rattle.rules.specs.Check.{checked}
 use Rattle.rules.specs.Prefix.{argumentsRight, values}
 use Rattle.rules.specs.Run.{Lent, Tables, CellRule, usableBy, cellsTakenBy, cellsLoadedBy, Ending, finished, aborted, refusedWith}
-use Rattle.rules.specs.Run.{answer, heights, fits, refusalAt, endOf, Point, stepWithinBy, continuedBy, loadedBy, startedBy}
+use Rattle.rules.specs.Run.{Outcome, answer, heights, fits, refusalAt, endOf, Point, stepWithinBy, continuedBy, loadedBy, startedBy}
 use Rattle.rules.specs.Run.{deliveredIn, delivered, runBy}
 use Rattle.rules.specs.Promise.{takesBy, Room, NoRoom, frames, stack, heap}
 use Rattle.rules.proofs.ListLaws.{none-some}
@@ -149,6 +149,11 @@ module _ (room steps : ℕ) where
   pub deliver-refused : (r : Refusal) → delivered room (answer (refusedWith r) steps) ≡ answer (refusedWith r) steps
   unfolding delivered deliveredIn
   deliver-refused r = refl
+
+-- what is delivered of a refusal is that refusal
+pub refusal-delivered : (room : ℕ) (a : Outcome) (r : Refusal) → a .ending ≡ refusedWith r → delivered room a .ending ≡ refusedWith r
+unfolding delivered deliveredIn
+refusal-delivered room a r e = rw e
 
 ---- The whole run
 

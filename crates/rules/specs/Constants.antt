@@ -21,9 +21,6 @@ nowNeeds file entry bytes lent steps =
     >>= (λ s. loadedBy everyOne s (usableBy everyOne lent) entry bytes
     >>= (λ st. found (cellsLoadedBy withArguments s bytes + buildsBy withArguments s steps st))))
 
-abbrev pub GaveBut15 : Outcome → Type 0
-GaveBut15 a = (r : Refusal) → a .ending ≡ refusedWith r → r .number ≡ 15 → ⊥
-
 abbrev pub Gives15 : Outcome → Type 0
 Gives15 a = (r : Refusal) × (a .ending ≡ refusedWith r) × (r .number ≡ 15)
 
@@ -42,7 +39,7 @@ module _ (file : List ℕ) (entry : ℕ) (arguments : List ℕ) (budget : ℕ) (
 -- and a run that needs more gives 15
 abbrev pub ConstantsFact : Type 0
 ConstantsFact =
-    (file : List ℕ) (entry : ℕ) (arguments : List ℕ) (budget : ℕ) (lent : Lent) → GaveBut15 (before file entry arguments budget lent)
+    (file : List ℕ) (entry : ℕ) (arguments : List ℕ) (budget : ℕ) (lent : Lent) → (Gives15 (before file entry arguments budget lent) → ⊥)
     → (nowNeeds file entry arguments lent (before file entry arguments budget lent .steps) ≤ 65471
     → SameAnswer file entry arguments budget lent)
     × (65471 < nowNeeds file entry arguments lent (before file entry arguments budget lent .steps)

@@ -1,5 +1,5 @@
 -- Build: constructor c takes the place of the top n values. A constant takes no cell.
-use Prim.Native.Nat.{ℕ, zero, suc, _+_, _-_, _≤_, _<_}
+use Prim.Native.Nat.{ℕ, suc, _+_, _-_, _≤_, _<_}
 use mathlib.Core.Path.{_≡_, refl, sym, ap, ap₂, _∙_, subst}
 use mathlib.Core.List.{List, [], _∷_, _++_}
 use mathlib.Core.Option.{none, some}
@@ -16,6 +16,7 @@ use Rattle.rules.specs.declared.records.Instruction.the-variants.{Build}
 use Rattle.rules.proofs.ListLaws.{at-less}
 use Rattle.rules.proofs.MachineLaws.{bind-some}
 use Rattle.rules.proofs.HeapLaws.{allocated-constant, allocated-cell}
+use Rattle.rules.proofs.PrefixLaws.{arity-is}
 use Rattle.store.specs.Cells.{refs, constructorIn, heapIn, CellPut}
 use Rattle.store.specs.declared.frames.Frame.{Frame}
 use Rattle.store.specs.declared.limits.Limits.{Limits}
@@ -24,7 +25,6 @@ use Rattle.store.proofs.CellLaws.{heap-length, heap-put, constructor-kept}
 use Rattle.rules.specs.Prefix.{arity}
 use Rattle.fetch.specs.Arities.{place, NumbersInRange}
 use Rattle.fetch.specs.Places.{Behind}
-use Rattle.fetch.proofs.ArityLaws.{arity-is}
 use Rattle.steps.specs.Stands.{waitingOn, topOn, stateIn, Laid, Standing, LeadsTo}
 use Rattle.steps.specs.Steps.{moved, movedOver, counted, Builds, build-full, build-constant, build-short, build-goes}
 use Rattle.steps.specs.declared.state.Registers.{Registers}
@@ -140,11 +140,7 @@ module _ (file : List ℕ) (m : Limits) (cells stack : List ℕ) (r : Registers)
   -- of others a cell
   module _ (any : arity (programIn file) c ≡ 0 → ⊥) where
     a-cell : allocated (here .heap) c made ≡ (here .heap ++ (cell c made ∷ []), numberOf (length (here .heap)))
-    a-cell = allocated-cell (here .heap) c made (rw (length-refs stack (r .base + (h - n)) n) (some-left n any))
-      where
-        some-left : (k : ℕ) → (k ≡ 0 → ⊥) → 0 < k
-        some-left zero e = absurd (e refl)
-        some-left (suc k) e = omega arith
+    a-cell = allocated-cell (here .heap) c made (omega (arith, length-refs stack (r .base + (h - n)) n, any))
 
     large : length (next .heap) ≡ r .used + 1
     large =
