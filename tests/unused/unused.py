@@ -7,7 +7,7 @@ THEOREMS = {'cases-hold', 'tally-promise', 'check-exact', 'round-trip', 'exact',
             'cover-fact', 'branch-fact', 'argument-fact', 'read-back-fact', 'room-fact', 'types-fact', 'size-fact', 'choice-fact',
             'progress-fact', 'argument-exact', 'packing-exact', 'unpacking-exact', 'says-operation', 'refusal-exact', 'check-exactly', 'open-exact',
             'check-words-small', 'pack-words-small', 'unpack-words-small', 'run-words-small', 'lines-words-small', 'lines-argument',
-            'empty-text', 'lines-exact', 'constants-fact', 'every-byte', 'every-build'}
+            'empty-text', 'lines-exact', 'constants-fact', 'every-byte', 'every-build', 'reads-unpacked', 'found-unpacked'}
 
 TOKEN = re.compile(r'[^\s(){}.;,@"«»]+')
 SIGNATURE = re.compile(r'((?:(?:unfoldable|abbrev|pub) )*)(?:data |record )?([^\s(){}.;,]+)(?: [({].*)? :(?: |$)', re.M)

@@ -9,10 +9,13 @@ use native.Mathlib.Nat.{add-zero, zero-add, eq-or-lt-of-le}
 use native.Mathlib.Numerals.{add-one}
 use lib.ListN.{length, getD, set, take, drop, length-append, drop-of-length-le}
 use lib.Seq.{take-append-seam, drop-append-seam, drop-cons, getD-set-same}
-use Rattle.rules.specs.Base.{passed}
+use Rattle.rules.specs.Base.{byteAt, passed}
+use Rattle.rules.specs.Container.{payload}
+use Rattle.rules.specs.Established.{Parsed}
 use Rattle.rules.specs.Heap.{Heap, cell, allocatedFor, allocated, numberOf}
 use Rattle.rules.specs.Prefix.{arity, readBytes}
 use Rattle.rules.specs.Program.{Constructor, Program, constructor}
+use Rattle.rules.specs.Records.{programIn}
 use Rattle.rules.specs.Run.{cellsLoaded, cellsLoadedBy, oneUnlessConstant}
 use Rattle.rules.proofs.ListLaws.{at-less}
 use Rattle.rules.proofs.PrefixLaws.{read-cons, arity-is}
@@ -21,6 +24,8 @@ use Rattle.rules.proofs.HeapLaws.{allocated-cell, allocated-constant}
 use Rattle.store.specs.Cells.{refs, constructorIn, heapIn, CellPut}
 use Rattle.store.proofs.RefLaws.{length-refs, refs-same, refs-append, put-one}
 use Rattle.store.proofs.CellLaws.{heap-length, heap-put, constructor-kept, cell-put-kept, cells-kept-refl, cells-kept-trans}
+use Rattle.fetch.specs.Indexed.{constructorArity}
+use Rattle.fetch.proofs.IndexLaws.{constructor-read}
 use Rattle.arguments.specs.Loading.{Loading, MadeFrom, MadeFor}
 
 ---- The bytes
@@ -59,7 +64,10 @@ one-cell (suc n) h = refl
 
 ---- One byte
 
-module _ (s : Program) (index bytes : List ℕ) (a : Loading s index bytes) (i : ℕ) (inside : i < length bytes) where
+module _ {file bytes : List ℕ} (a : Loading file bytes) (i : ℕ) (inside : i < length bytes) where
+  abbrev s : Program
+  s = programIn file
+
   abbrev c : ℕ
   c = getD bytes i 0
 
@@ -96,7 +104,7 @@ module _ (s : Program) (index bytes : List ℕ) (a : Loading s index bytes) (i :
       let m = length-append (here .2 .arguments) (here .1) in
       (omega (arith, l, q, m), omega (arith, l, q, m, here .3))
 
-  module _ (used : ℕ) (cells cells′ numbers : List ℕ) (at : ℕ) (x : MadeFrom s bytes (i + 1) used cells cells′ numbers at) where
+  module _ {used : ℕ} {cells cells′ numbers : List ℕ} {at : ℕ} (x : MadeFrom s bytes (i + 1) used cells cells′ numbers at) where
     argument-room : (at + n ≤ 256) × (0 < at + n)
     argument-room =
         let len = length-refs numbers at (256 - at) in
@@ -168,7 +176,7 @@ module _ (s : Program) (index bytes : List ℕ) (a : Loading s index bytes) (i :
       heap-more : heapIn (arity s) cells″ (suc used) ≡ later .0 ++ (cell c (refs numbers at n) ∷ [])
       heap-more =
           heap-put (arity s) used c (refs numbers at n) cells′ cells″ p (length-refs numbers at n)
-          (λ k h. a .indexed (constructorIn cells′ k) (x .known k h) .2)
+          (λ k h. constructor-read (a .parsed) (constructorIn cells′ k) (x .known k h) .2)
           ∙ ap (λ (heap : Heap). heap ++ (cell c (refs numbers at n) ∷ [])) (x .heap)
 
       known-more : (k : ℕ) → k < suc used → constructorIn cells″ k < length (s .constructors)
@@ -202,9 +210,9 @@ module _ (s : Program) (index bytes : List ℕ) (a : Loading s index bytes) (i :
 
 ---- In the code's words
 
-pub made-none : (s : Program) (bytes cells numbers : List ℕ) → MadeFrom s bytes (length bytes) 0 cells cells numbers 256
+pub made-none : {s : Program} {bytes cells numbers : List ℕ} → MadeFrom s bytes (length bytes) 0 cells cells numbers 256
 unfolding refs allocatedFor heapIn cellsLoadedBy
-made-none s bytes cells numbers =
+made-none {s} {bytes} {cells} {numbers} =
     let none = drop-of-length-le bytes {i = length bytes} (omega arith) in record {
       taken = rw none;
       heap = rw none;
@@ -214,61 +222,61 @@ made-none s bytes cells numbers =
       known = λ k h. absurd (omega arith);
     }
 
-pub made-all : (s : Program) (bytes : List ℕ) (i used : ℕ) (cells cells′ numbers : List ℕ) (at : ℕ) → i ≡ 0
+pub made-all : {s : Program} {bytes : List ℕ} {i used : ℕ} {cells cells′ numbers : List ℕ} {at : ℕ} → i ≡ 0
     → MadeFrom s bytes i used cells cells′ numbers at → MadeFor s bytes cells cells′ numbers at used
-made-all s bytes i used cells cells′ numbers at e x =
+made-all {s} {bytes} {i} {used} {cells} {cells′} {numbers} {at} e x =
     let y = subst (λ (j : ℕ). MadeFrom s bytes j used cells cells′ numbers at) e x in
     record { taken = y .taken; heap = y .heap; values = y .values; low = y .low; kept = y .kept; known = y .known }
 
-module _ (s : Program) (index bytes : List ℕ) (a : Loading s index bytes) (i : ℕ) (pos : 0 < i) (inside : i ≤ length bytes)
-    (c′ : ℕ) (ec : c′ ≡ getD bytes (i - 1) 0) where
-  pub byte-known : c′ < 64
-  byte-known = rw ec (a .indexed _ (argument-known s index bytes a (i - 1) (omega arith)) .0)
+module _ {file bytes : List ℕ} (a : Loading file bytes) (i : ℕ) (pos : 0 < i) (inside : i ≤ length bytes) {c′ : ℕ}
+    (ec : c′ ≡ getD bytes (i - 1) 0) where
+  byte-read : (c′ < byteAt (payload file) 2) × (constructorArity file c′ ≡ arity (programIn file) c′) × (arity (programIn file) c′ ≤ 4)
+  byte-read = constructor-read (a .parsed) c′ (omega (arith, ec, argument-known a (i - 1) (omega arith)))
 
-  module _ (n′ : ℕ) (en : n′ ≡ getD index c′ 0) where
-    arity-read : (n′ ≡ arity s (getD bytes (i - 1) 0)) × (n′ ≤ 4)
-    arity-read =
-        let r = a .indexed (getD bytes (i - 1) 0) (argument-known s index bytes a (i - 1) (omega arith)) in
-        let q : n′ ≡ getD index (getD bytes (i - 1) 0) 0 = en ∙ ap (λ (z : ℕ). getD index z 0) ec in
-        (q ∙ r .1, omega (arith, q, r .1, r .2))
+  -- what reading the byte's arity asks
+  pub byte-known : Parsed file × (c′ < byteAt (payload file) 2)
+  byte-known = (a .parsed, byte-read .0)
+
+  module _ {n′ : ℕ} (en : n′ ≡ constructorArity file c′) where
+    arity-read : n′ ≡ arity (programIn file) (getD bytes (i - 1) 0)
+    arity-read = en ∙ byte-read .1 ∙ ap (arity (programIn file)) ec
 
     pub byte-few : n′ ≤ 4
-    byte-few = arity-read .1
+    byte-few = omega (arith, en, byte-read .1, byte-read .2)
 
     -- the cells that the bytes from here on take
-    counted-byte : cellsLoaded s (drop (i - 1) bytes) ≡ oneUnlessConstant n′ + cellsLoaded s (drop i bytes)
-    counted-byte =
-        let e : i - 1 + 1 ≡ i = omega arith in
-        rw (arity-read .0) (rw e at (counted-here s index bytes a (i - 1) (omega arith)))
+    counted-byte : cellsLoaded (programIn file) (drop (i - 1) bytes)
+        ≡ oneUnlessConstant n′ + cellsLoaded (programIn file) (drop i bytes)
+    counted-byte = let e : i - 1 + 1 ≡ i = omega arith in rw arity-read (rw e at (counted-here a (i - 1) (omega arith)))
 
-    pub counted-constant : n′ ≡ 0 → cellsLoaded s (drop (i - 1) bytes) ≡ cellsLoaded s (drop i bytes)
+    pub counted-constant : n′ ≡ 0 → cellsLoaded (programIn file) (drop (i - 1) bytes) ≡ cellsLoaded (programIn file) (drop i bytes)
     counted-constant none = omega (arith, counted-byte, ap oneUnlessConstant none)
 
-    pub counted-cell : (n′ ≡ 0 → ⊥) → cellsLoaded s (drop (i - 1) bytes) ≡ 1 + cellsLoaded s (drop i bytes)
+    pub counted-cell : (n′ ≡ 0 → ⊥)
+        → cellsLoaded (programIn file) (drop (i - 1) bytes) ≡ 1 + cellsLoaded (programIn file) (drop i bytes)
     counted-cell any = omega (arith, counted-byte, one-cell n′ (omega (arith, any)))
 
-    module _ (used : ℕ) (cells cells′ numbers : List ℕ) (at : ℕ) (x : MadeFrom s bytes i used cells cells′ numbers at) where
-      before : MadeFrom s bytes (i - 1 + 1) used cells cells′ numbers at
-      before = let e : i ≡ i - 1 + 1 = omega arith in subst (λ (k : ℕ). MadeFrom s bytes k used cells cells′ numbers at) e x
+    module _ {used : ℕ} {cells cells′ numbers : List ℕ} {at : ℕ} (x : MadeFrom (programIn file) bytes i used cells cells′ numbers at) where
+      before : MadeFrom (programIn file) bytes (i - 1 + 1) used cells cells′ numbers at
+      before =
+          let e : i ≡ i - 1 + 1 = omega arith in
+          subst (λ (k : ℕ). MadeFrom (programIn file) bytes k used cells cells′ numbers at) e x
 
       pub byte-room : (at + n′ ≤ 256) × (0 < at + n′)
-      byte-room = rw (arity-read .0) (argument-room s index bytes a (i - 1) (omega arith) used cells cells′ numbers at before)
+      byte-room = rw arity-read (argument-room a (i - 1) (omega arith) before)
 
       -- a cell for it is among those that the bytes take
-      pub byte-fits : (n′ ≡ 0 → ⊥) → used < cellsLoaded s bytes
-      byte-fits any = omega (arith, counted-cell any, x .taken, loaded-less s (i - 1) bytes)
+      pub byte-fits : (n′ ≡ 0 → ⊥) → used < cellsLoaded (programIn file) bytes
+      byte-fits any = omega (arith, counted-cell any, x .taken, loaded-less (programIn file) (i - 1) bytes)
 
       pub byte-constant : length numbers ≡ 256 → n′ ≡ 0
-          → MadeFrom s bytes (i - 1) used cells cells′ (set numbers (at + n′ - 1) c′) (at + n′ - 1)
+          → MadeFrom (programIn file) bytes (i - 1) used cells cells′ (set numbers (at + n′ - 1) c′) (at + n′ - 1)
       byte-constant long none =
-          rw (arity-read .0, ec)
-          (constant-more s index bytes a (i - 1) (omega arith) used cells cells′ numbers at before long (sym (arity-read .0) ∙ none))
+          rw (arity-read, ec) (constant-more a (i - 1) (omega arith) before long (sym arity-read ∙ none))
 
-      pub byte-cell : length numbers ≡ 256 → (n′ ≡ 0 → ⊥) → (cells″ : List ℕ) → CellPut used c′ (refs numbers at n′) cells′ cells″
-          → MadeFrom s bytes (i - 1) (used + 1) cells cells″ (set numbers (at + n′ - 1) (numberOf used)) (at + n′ - 1)
-      byte-cell long any cells″ p =
+      pub byte-cell : length numbers ≡ 256 → (n′ ≡ 0 → ⊥) → {cells″ : List ℕ} → CellPut used c′ (refs numbers at n′) cells′ cells″
+          → MadeFrom (programIn file) bytes (i - 1) (used + 1) cells cells″ (set numbers (at + n′ - 1) (numberOf used)) (at + n′ - 1)
+      byte-cell long any {cells″} p =
           let p₁ = subst (λ (y : ℕ). CellPut used y (refs numbers at n′) cells′ cells″) ec p in
-          let p₂ = subst (λ (y : ℕ). CellPut used (getD bytes (i - 1) 0) (refs numbers at y) cells′ cells″) (arity-read .0) p₁ in
-          rw (arity-read .0, add-one)
-          (cell-more s index bytes a (i - 1) (omega arith) used cells cells′ numbers at before long
-          (omega (arith, arity-read .0, any)) cells″ p₂)
+          let p₂ = subst (λ (y : ℕ). CellPut used (getD bytes (i - 1) 0) (refs numbers at y) cells′ cells″) arity-read p₁ in
+          rw (arity-read, add-one) (cell-more a (i - 1) (omega arith) before long (omega (arith, arity-read, any)) cells″ p₂)

@@ -3,27 +3,26 @@ use Prim.Native.Nat.{ℕ, _+_, _-_, _≤_, _<_}
 use mathlib.Core.Path.{_≡_, sym, ap, _∙_, subst, refl}
 use mathlib.Core.List.{List, [], _∷_, _++_, append-assoc, append-nil}
 use mathlib.Core.Option.{none, some}
-use mathlib.Core.Bool.{Bool, _&&_}
 use native.Mathlib.Omega.{arith}
 use native.Mathlib.Numerals.{add-one}
 use lib.ListN.{length, getD, set, take, drop, length-append, length-drop, length-take, drop-of-length-le}
 use lib.Seq.{sets, sets-eq, length-sets, take-suc, drop-cons, drop-append-seam}
-use lib.Dec.{leb, eqb}
-use borrow.Author.Tests.{eq-eqb, ne-eqb, le-leb, lt-leb, leb-true}
+use borrow.Author.Tests.{eq-eqb, ne-eqb, le-leb, lt-leb}
 use Rattle.rules.specs.declared.records.Declaration.{Declaration}
-use Rattle.rules.specs.Base.{refusal, found, refused, Check, passed, byteAt, within}
+use Rattle.rules.specs.Base.{refusal, found, refused, Check, passed, byteAt}
 use Rattle.rules.specs.Container.{payload}
 use Rattle.rules.specs.Program.{Constructor, Program, constructor}
 use Rattle.rules.specs.Records.{declarationAt, constructorAt, constructorOf, constructorOffset, functionOf, programOf, argumentsOf}
-use Rattle.rules.specs.Records.{programIn, headerRight}
+use Rattle.rules.specs.Records.{programIn}
 use Rattle.rules.specs.There.{RecordsThere}
-use Rattle.rules.specs.Established.{Parsed}
+use Rattle.rules.specs.Established.{Verified, Parsed}
 use Rattle.rules.specs.Prefix.{readByte, readBytes, argumentsRight}
-use Rattle.rules.proofs.ListLaws.{and-left, and-right, sets-append}
-use Rattle.rules.proofs.NumberedLaws.{numbered-at, numbered-past}
+use Rattle.rules.proofs.ListLaws.{sets-append}
+use Rattle.rules.proofs.NumberedLaws.{numbered-past}
 use Rattle.rules.proofs.RecordLaws.{arguments-length, records-there}
+use Rattle.fetch.proofs.IndexLaws.{constructor-is}
 use Rattle.arguments.specs.Reading.{HeadThere, ReadsByte}
-use native.Mathlib.Nat.{add-zero, zero-add}
+use native.Mathlib.Nat.{add-zero}
 
 ---- Putting types
 
@@ -108,23 +107,8 @@ module _ (s : Program) (c at : ℕ) (types : List ℕ) (long : length types ≡ 
         long = length-sets types (at + 1 - length (k .arguments)) (k .arguments) ∙ long;
       }
 
----- The constructors of a payload
+---- The constructors of a parsed file, in the code's words
 
-module _ (bytes : List ℕ) where
-  constructor-is : (c : ℕ) → c < byteAt bytes 2
-      → constructor (programOf bytes) c ≡ some (constructorOf (constructorAt bytes (constructorOffset c)))
-  unfolding programOf
-  constructor-is c h = rw zero-add at (numbered-at (λ k. constructorOf (constructorAt bytes (constructorOffset k))) (byteAt bytes 2) 0 c h)
-
-  few-constructors : RecordsThere bytes → byteAt bytes 2 ≤ 64
-  unfolding headerRight
-  few-constructors there =
-      let first : Bool = eqb (byteAt bytes 0) 1 && within 1 32 (byteAt bytes 1) in
-      let c = and-right first (within 1 64 (byteAt bytes 2))
-      (and-left (first && within 1 64 (byteAt bytes 2)) (within 1 32 (byteAt bytes 3)) (there .header-right)) in
-      leb-true (byteAt bytes 2) 64 (and-right (leb 1 (byteAt bytes 2)) (leb (byteAt bytes 2) 64) c)
-
--- in the code's words
 module _ {file : List ℕ} (parsed : Parsed file) where
   there : RecordsThere (payload file)
   there = records-there (payload file) (parsed .records)
@@ -138,10 +122,8 @@ module _ {file : List ℕ} (parsed : Parsed file) where
     byte-unknown h =
         numbered-past (λ k. constructorOf (constructorAt (payload file) (constructorOffset k))) (byteAt (payload file) 2) 0 c (omega arith)
 
-    pub declaration-there : c < known → (constructorOffset c + 8 ≤ length (payload file)) × (c < 64)
-    declaration-there h =
-        let h′ : c < byteAt (payload file) 2 = omega arith in
-        (there .constructor c h′ .0, omega (arith, few-constructors (payload file) there))
+    pub declaration-there : c < known → Verified file × (constructorOffset c + 6 ≤ length (payload file))
+    declaration-there h = (parsed .verified, omega (arith, there .constructor c (omega arith) .0))
 
     module _ (h : c < known) (d : Declaration) (ed : d ≡ declarationAt (payload file) (constructorOffset c)) where
       pub declared-arity : (length (argumentsOf d) ≡ d .arity) × (d .arity ≤ 4)

@@ -2,26 +2,28 @@
 use mathlib.Core.Path.{_≡_}
 use mathlib.Core.List.{List}
 use Prim.Native.Nat.{ℕ, _-_, _≤_, _<_}
-use lib.ListN.{length, getD, drop}
+use lib.ListN.{length, drop}
 use Rattle.rules.specs.Base.{passed}
+use Rattle.rules.specs.Established.{Parsed}
 use Rattle.rules.specs.Heap.{allocatedFor}
 use Rattle.rules.specs.Prefix.{arity, readBytes}
 use Rattle.rules.specs.Program.{Program}
+use Rattle.rules.specs.Records.{programIn}
 use Rattle.rules.specs.Run.{cellsLoaded}
 use Rattle.store.specs.Cells.{refs, constructorIn, CellRoom, heapIn, CellsKept}
 
--- the bytes passed the check for these parameters, and the index has the arities of the program's constructors
-pub record Loading (s : Program) (index bytes : List ℕ) : Type 0 where
+-- the bytes passed the check of the program in the blocks for these parameters
+pub record Loading (file bytes : List ℕ) : Type 0 where
+  pub parsed : Parsed file
   pub pending : List ℕ
-  pub right : readBytes s 0 bytes pending ≡ passed
+  pub right : readBytes (programIn file) 0 bytes pending ≡ passed
   pub few : length pending ≤ 256
-  pub indexed : (c : ℕ) → c < length (s .constructors) → (c < 64) × (getD index c 0 ≡ arity s c) × (arity s c ≤ 4)
 
 -- and there is room for the cells that they take
-pub record Roomy (s : Program) (index bytes cells : List ℕ) : Type 0 where
-  pub loading : Loading s index bytes
-  pub room : CellRoom cells (cellsLoaded s bytes)
-  pub few : cellsLoaded s bytes ≤ 65471
+pub record Roomy (file bytes cells : List ℕ) : Type 0 where
+  pub loading : Loading file bytes
+  pub room : CellRoom cells (cellsLoaded (programIn file) bytes)
+  pub few : cellsLoaded (programIn file) bytes ≤ 65471
 
 -- the first cells are those of the bytes from i on, and the references from a place on are those to their values
 pub record MadeFrom (s : Program) (bytes : List ℕ) (i used : ℕ) (cells cells′ numbers : List ℕ) (at : ℕ) : Type 0 where

@@ -52,7 +52,7 @@ fn read_byte(file: &[u8], known: usize, types: &mut [u8; 256], at: usize, c: usi
     if c >= known {
         return 257;
     }
-    let d = readers::declaration(file, readers::constructor_offset(c));
+    let d = readers::constructor_declaration(file, c);
     let arity = wide(d.arity);
     if d.result != types[at] {
         return 257;

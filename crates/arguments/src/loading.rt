@@ -4,7 +4,7 @@ use readers::wide;
 use store::put_cell;
 ghost use mathlib.Core.Path.{_≡_};
 ghost use lib.Dec.{leb};
-ghost use Rattle.rules.specs.Program.{Program};
+ghost use Rattle.rules.specs.Records.{programIn};
 ghost use Rattle.rules.specs.Run.{cellsLoaded};
 ghost use Rattle.arguments.specs.Loading.{Loading, Roomy, MadeFor};
 
@@ -16,15 +16,15 @@ pub struct Pending {
 }
 
 // How many cells the arguments take. Constants take none.
-fn cells_needed(index: &[u32; 128], bytes: &[u8]) -> usize
-    requires { ⌜ ((s : Program) × Loading s (now index) (now bytes)) ⌝ }
-    ensures { λ r. ⌜ ((s : Program) → Loading s (now (index .entry)) (now (bytes .entry)) → r ≡ cellsLoaded s (now (bytes .entry))) ⌝ }
+fn cells_needed(file: &[u8], bytes: &[u8]) -> usize
+    requires { ⌜ Loading (now file) (now bytes) ⌝ }
+    ensures { λ r. ⌜ r ≡ cellsLoaded (programIn (now (file .entry))) (now (bytes .entry)) ⌝ }
 {
     let mut needed: usize = 0;
     let mut i = bytes.len();
     while 0 < i {
         i -= 1;
-        if constructor_arity(index, wide(bytes[i])) != 0 {
+        if constructor_arity(file, wide(bytes[i])) != 0 {
             needed += 1;
         }
     }
@@ -32,22 +32,21 @@ fn cells_needed(index: &[u32; 128], bytes: &[u8]) -> usize
 }
 
 // For the crates above: whether so many cells are enough for the arguments. A byte takes one at most, so they are seldom counted.
-pub fn enough(index: &[u32; 128], bytes: &[u8], cells: usize) -> bool
-    requires { ⌜ ((s : Program) × Loading s (now index) (now bytes)) ⌝ }
-    ensures { λ r. ⌜ ((s : Program) → Loading s (now (index .entry)) (now (bytes .entry))
-        → r ≡ leb (cellsLoaded s (now (bytes .entry))) cells) ⌝ }
+pub fn enough(file: &[u8], bytes: &[u8], cells: usize) -> bool
+    requires { ⌜ Loading (now file) (now bytes) ⌝ }
+    ensures { λ r. ⌜ r ≡ leb (cellsLoaded (programIn (now (file .entry))) (now (bytes .entry))) cells ⌝ }
 {
     if bytes.len() <= cells {
         return true;
     }
-    cells_needed(index, bytes) <= cells
+    cells_needed(file, bytes) <= cells
 }
 
 // For the crates above: the arguments' cells, from the last byte to the first, constants skipped.
-pub fn make_arguments(index: &[u32; 128], bytes: &[u8], cells: &mut [u16]) -> Pending
-    requires { ⌜ ((s : Program) × Roomy s (now index) (now bytes) (now cells)) ⌝ }
-    ensures { λ r. ⌜ ((s : Program) → Roomy s (now (index .entry)) (now (bytes .entry)) (now (cells .entry))
-        → MadeFor s (now (bytes .entry)) (now (cells .entry)) (now (cells .exit)) (r .numbers) (r .at) (r .used)) ⌝ }
+pub fn make_arguments(file: &[u8], bytes: &[u8], cells: &mut [u16]) -> Pending
+    requires { ⌜ Roomy (now file) (now bytes) (now cells) ⌝ }
+    ensures { λ r. ⌜ MadeFor (programIn (now (file .entry))) (now (bytes .entry)) (now (cells .entry)) (now (cells .exit)) (r .numbers)
+        (r .at) (r .used) ⌝ }
 {
     let mut numbers = [0u16; 256];
     let mut at: usize = 256;
@@ -56,7 +55,7 @@ pub fn make_arguments(index: &[u32; 128], bytes: &[u8], cells: &mut [u16]) -> Pe
     while 0 < i {
         i -= 1;
         let c = wide(bytes[i]);
-        let n = constructor_arity(index, c);
+        let n = constructor_arity(file, c);
         let mut number = c as u16;
         if n != 0 {
             number = put_cell(cells, used, number, &numbers, at, n);

@@ -3,7 +3,7 @@ use mathlib.Core.Path.{_≡_, sym, ap, _∙_, subst}
 use mathlib.Core.List.{List, _∷_}
 use Prim.Native.Nat.{ℕ, suc, _+_, _-_, _/_, _≤_, _<_}
 use native.Mathlib.Omega.{arith}
-use lib.ListN.{length, getD}
+use lib.ListN.{length}
 use Rattle.rules.specs.declared.answers.Place.{Place}
 use Rattle.rules.specs.declared.answers.Reason.{Reason}
 use Rattle.rules.specs.declared.answers.Reason.the-variants as reason
@@ -23,6 +23,7 @@ use Rattle.store.specs.declared.frames.Frame.{Frame}
 use Rattle.store.specs.declared.limits.Limits.{Limits}
 use Rattle.store.proofs.CellLaws.{heap-length, heap-same, room-less}
 use Rattle.store.proofs.RefLaws.{refs-all}
+use Rattle.fetch.specs.Indexed.{constructorArity}
 use Rattle.fetch.specs.Places.{offsetAt, Inside}
 use Rattle.fetch.proofs.IndexLaws.{constructor-read}
 use Rattle.fetch.proofs.PlaceLaws.{stands-number}
@@ -64,24 +65,24 @@ same-number p e = ap (λ (n : ℕ). atPlace n p) (sym e)
 all-first : {A : Type 0} {P : A → Type 0} {x : A} {xs : List A} → All P (x ∷ xs) → P x
 all-first (p l∷ ps) = p
 
-module _ {file index : List ℕ} {m : Limits} {budget : ℕ} {says : Outcome} {cells stack : List ℕ} {r : Registers} {i : ℕ} {ws : List Frame}
-    (e : Ended file index m budget says cells stack r i ws) where
+module _ {file : List ℕ} {m : Limits} {budget : ℕ} {says : Outcome} {cells stack : List ℕ} {r : Registers} {i : ℕ} {ws : List Frame}
+    (e : Ended file m budget says cells stack r i ws) where
   abbrev s : Program
   s = programIn file
 
   abbrev reference : ℕ
   reference = topReference stack r
 
-  -- the arities of the cells' constructors are in the index
+  -- the cells are of constructors of the program, whose arities are read in the blocks
   known : (k : ℕ) → k < r .used → constructorIn cells k < length (programIn file .constructors)
   known = e .ends .standing .laid .known
 
-  heap-is : heapIn (arity (programIn file)) cells (r .used) ≡ heapIn (λ c. getD index c 0) cells (r .used)
+  heap-is : heapIn (arity (programIn file)) cells (r .used) ≡ heapIn (constructorArity file) cells (r .used)
   heap-is =
-      heap-same (arity s) (λ c. getD index c 0) cells (r .used)
-      (λ k h. sym (constructor-read file index (e .indexed) (constructorIn cells k) (known k h) .1))
+      heap-same (arity s) (constructorArity file) cells (r .used)
+      (λ k h. sym (constructor-read (e .parsed) (constructorIn cells k) (known k h) .1))
 
-  earlier : NamesEarlier (heapIn (λ c. getD index c 0) cells (r .used))
+  earlier : NamesEarlier (heapIn (constructorArity file) cells (r .used))
   earlier = subst (λ (h : Heap). NamesEarlier h) heap-is (e .ends .standing .valid .earlier)
 
   module _ (w : r .why ≡ 3) where
@@ -99,22 +100,22 @@ module _ {file index : List ℕ} {m : Limits} {budget : ℕ} {says : Outcome} {c
         (r .top - r .base - 1) (omega (arith, e .ends .result w .0)) in
         omega (arith, rw n at l, heap-length (arity s) cells (r .used))
 
-    pub result-readable : Readable index cells (topReference stack r)
+    pub result-readable : Readable file cells (topReference stack r)
     result-readable =
-        readable index cells (r .used) reference result-refers (omega (arith, e .ends .standing .laid .taken, e .lent .few-cells))
+        readable file cells (r .used) reference (e .parsed) result-refers
+        (omega (arith, e .ends .standing .laid .taken, e .lent .few-cells))
         (room-less cells (m .cells) (r .used) (e .lent .cell-room) (e .ends .standing .laid .taken))
-        (λ k h. constructor-read file index (e .indexed) (constructorIn cells k) (known k h) .0)
-        (λ k h. let a = constructor-read file index (e .indexed) (constructorIn cells k) (known k h) in omega (arith, a .1, a .2)) earlier
+        (λ k h. constructor-read (e .parsed) (constructorIn cells k) (known k h) .0) earlier
 
-    result-bytes : bytesOf index cells (topReference stack r)
+    result-bytes : bytesOf file cells (topReference stack r)
         ≡ written (valueOf (heapIn (arity (programIn file)) cells (r .used)) (topReference stack r))
     result-bytes =
-        bytes-in index cells (r .used) reference result-refers earlier ∙ ap (λ (h : Heap). written (valueOf h reference)) (sym heap-is)
+        bytes-in file cells (r .used) reference result-refers earlier ∙ ap (λ (h : Heap). written (valueOf h reference)) (sym heap-is)
 
-    pub result-short : length (bytesOf index cells (topReference stack r)) < 4294967296
+    pub result-short : length (bytesOf file cells (topReference stack r)) < 4294967296
     result-short = rw result-bytes (e .ends .result w .1)
 
-    pub says-result : answer (finished (bytesOf index cells (topReference stack r))) (budget - r .left) ≡ says
+    pub says-result : answer (finished (bytesOf file cells (topReference stack r))) (budget - r .left) ≡ says
     says-result = rw result-bytes (sym (e .ends .result w .2))
 
   -- a stop is counted as a step

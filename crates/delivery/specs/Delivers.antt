@@ -7,17 +7,17 @@ use Rattle.rules.specs.declared.answers.Answer.{Answer}
 use Rattle.rules.specs.Run.{Outcome, delivered}
 use Rattle.rules.specs.Memory.{resultInto}
 use Rattle.rules.specs.Answers.{toldRun, measured}
+use Rattle.rules.specs.Established.{Parsed}
 use Rattle.store.specs.declared.frames.Frame.{Frame}
 use Rattle.store.specs.declared.limits.Limits.{Limits}
-use Rattle.fetch.specs.Indexed.{Indexed}
 use Rattle.steps.specs.Stands.{Lent}
 use Rattle.machine.specs.Runs.{EndsAs}
 use Rattle.steps.specs.declared.state.Registers.{Registers}
 
 -- what delivering asks: how a run under a budget ended that says so
-pub record Ended (file index : List ℕ) (m : Limits) (budget : ℕ) (says : Outcome) (cells stack : List ℕ) (r : Registers) (i : ℕ)
+pub record Ended (file : List ℕ) (m : Limits) (budget : ℕ) (says : Outcome) (cells stack : List ℕ) (r : Registers) (i : ℕ)
     (ws : List Frame) : Type 0 where
-  pub indexed : Indexed file index
+  pub parsed : Parsed file
   pub lent : Lent m cells stack
   pub few : budget < 4294967296
   pub fewer : r .left ≤ budget

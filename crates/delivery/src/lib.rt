@@ -24,20 +24,20 @@ use store::Limits;
 use store::wide16;
 
 // The result in cell k to the output's front, where there is room for it.
-fn deliver_result(index: &[u32; 128], cells: &[u16], k: usize, steps: u32, out: &mut [u8]) -> Answer
-    requires { ⌜ Readable (now index) (now cells) k ⌝ }
-    requires { ⌜ length (bytesOf (now index) (now cells) k) < 4294967296 ⌝ }
-    ensures { λ r. ⌜ Delivers (answer (finished (bytesOf (now (index .entry)) (now (cells .entry)) k)) steps) (now (out .entry))
+fn deliver_result(file: &[u8], cells: &[u16], k: usize, steps: u32, out: &mut [u8]) -> Answer
+    requires { ⌜ Readable (now file) (now cells) k ⌝ }
+    requires { ⌜ length (bytesOf (now file) (now cells) k) < 4294967296 ⌝ }
+    ensures { λ r. ⌜ Delivers (answer (finished (bytesOf (now (file .entry)) (now (cells .entry)) k)) steps) (now (out .entry))
         (now (out .exit)) r ⌝ }
 {
-    let needed = result::count(index, cells, k);
+    let needed = result::count(file, cells, k);
     if out.len() < needed {
         return Answer {
             ending: Ending::Refused(Reason::OutputTooShort { needed: needed }),
             steps: steps,
         };
     }
-    result::write(index, cells, k, out);
+    result::write(file, cells, k, out);
     Answer {
         ending: Ending::Result(needed),
         steps: steps,
@@ -63,23 +63,23 @@ fn missing(why: usize, place: Place) -> Reason
 
 // What the run's end says.
 fn deliver(
-    index: &[u32; 128],
+    file: &[u8],
     cells: &[u16],
     stack: &[u16],
     r: Registers,
     budget: usize,
     out: &mut [u8],
 ) -> Answer
-    requires { ⌜ ((file : List ℕ) × (m : Limits) × (says : Outcome) × (i : ℕ) × (ws : List Frame)
-        × Ended file (now index) m budget says (now cells) (now stack) r i ws) ⌝ }
-    ensures { λ a. ⌜ ((file : List ℕ) (m : Limits) (says : Outcome) (i : ℕ) (ws : List Frame)
-        → Ended file (now (index .entry)) m budget says (now (cells .entry)) (now (stack .entry)) r i ws
+    requires { ⌜ ((m : Limits) × (says : Outcome) × (i : ℕ) × (ws : List Frame)
+        × Ended (now file) m budget says (now cells) (now stack) r i ws) ⌝ }
+    ensures { λ a. ⌜ ((m : Limits) (says : Outcome) (i : ℕ) (ws : List Frame)
+        → Ended (now (file .entry)) m budget says (now (cells .entry)) (now (stack .entry)) r i ws
         → Delivers says (now (out .entry)) (now (out .exit)) a) ⌝ }
 {
     let steps = (budget - r.left) as u32;
     if r.why == RESULT {
         let last = r.top - 1;
-        return deliver_result(index, cells, wide16(stack[last]), steps, out);
+        return deliver_result(file, cells, wide16(stack[last]), steps, out);
     }
     if r.why == STOPS {
         return Answer {
@@ -99,7 +99,7 @@ fn deliver(
 
 // For the crates above: after the run, its answer, and the usable entries of cells and stack zero.
 pub fn finish(
-    index: &[u32; 128],
+    file: &[u8],
     cells: &mut [u16],
     stack: &mut [u16],
     m: Limits,
@@ -107,14 +107,14 @@ pub fn finish(
     budget: u32,
     out: &mut [u8],
 ) -> Answer
-    requires { ⌜ ((file : List ℕ) × (says : Outcome) × (i : ℕ) × (ws : List Frame)
-        × Ended file (now index) m budget says (now cells) (now stack) r i ws) ⌝ }
-    ensures { λ a. ⌜ ((file : List ℕ) (says : Outcome) (i : ℕ) (ws : List Frame)
-        → Ended file (now (index .entry)) m budget says (now (cells .entry)) (now (stack .entry)) r i ws
+    requires { ⌜ ((says : Outcome) × (i : ℕ) × (ws : List Frame)
+        × Ended (now file) m budget says (now cells) (now stack) r i ws) ⌝ }
+    ensures { λ a. ⌜ ((says : Outcome) (i : ℕ) (ws : List Frame)
+        → Ended (now (file .entry)) m budget says (now (cells .entry)) (now (stack .entry)) r i ws
         → Delivers says (now (out .entry)) (now (out .exit)) a)
         × Wiped m (now (cells .entry)) (now (stack .entry)) (now (cells .exit)) (now (stack .exit)) ⌝ }
 {
-    let answer = deliver(index, cells, stack, r, budget as usize, out);
+    let answer = deliver(file, cells, stack, r, budget as usize, out);
     store::wipe(cells, stack, m);
     answer
 }

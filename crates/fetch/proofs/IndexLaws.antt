@@ -1,4 +1,4 @@
--- What the index says of the program that a file holds.
+-- What the bytes of a parsed file and the index say of the program that it holds.
 use Prim.Native.Nat.{ℕ, zero, suc, _+_, _-_, _≤_, _<_}
 use mathlib.Core.Path.{_≡_, refl, sym, ap, _∙_, subst}
 use mathlib.Core.List.{List}
@@ -16,6 +16,7 @@ use Rattle.rules.specs.Program.{Constructor, Function, constructor, function}
 use Rattle.rules.specs.Records.{constructorOf, functionOf, instructionOf, programOf, constructorAt, instructionAt, headerRight}
 use Rattle.rules.specs.Records.{constructorOffset, headOffset, codeOffset, instructionOffset, programIn}
 use Rattle.rules.specs.There.{RecordsThere}
+use Rattle.rules.specs.Established.{Parsed}
 use Rattle.rules.specs.Stacks.{slot}
 use Rattle.rules.specs.Machine.{current}
 use Rattle.rules.specs.Prefix.{arity, arityOf}
@@ -23,8 +24,9 @@ use Rattle.rules.proofs.ListLaws.{some-inj, and-left, and-right, none-some, at-
 use Rattle.rules.proofs.NumberedLaws.{numbered-length, numbered-at}
 use Rattle.rules.proofs.RecordLaws.{arguments-length, records-there}
 use Rattle.rules.proofs.MachineLaws.{bind-some}
+use Rattle.rules.proofs.ContainerLaws.{verified-place, verified-byte}
 use Rattle.rules.proofs.PrefixLaws.{arity-is}
-use Rattle.fetch.specs.Indexed.{Indexed, constructorArity, functionArity, codeAt}
+use Rattle.fetch.specs.Indexed.{Indexed, constructorArity, functionArity, arityAt, codeAt}
 use Rattle.fetch.specs.Places.{StandsAt}
 use Rattle.fetch.specs.Arities.{inputs, place, NumbersInRange}
 use Rattle.fetch.proofs.ArityLaws.{inputs-is}
@@ -61,7 +63,7 @@ module _ (bytes : List ℕ) where
               3) 32 (and-right (leb 1 (byteAt bytes 3)) (leb (byteAt bytes 3) 32) f),
         )
 
-    pub held-arity : (c : ℕ) → c < byteAt bytes 2 → (arity (programOf bytes) c ≡ byteAt bytes (constructorOffset c + 1)) × (c < 64)
+    held-arity : (c : ℕ) → c < byteAt bytes 2 → (arity (programOf bytes) c ≡ byteAt bytes (constructorOffset c + 1)) × (c < 64)
         × (byteAt bytes (constructorOffset c + 1) ≤ 4)
     unfolding constructorOf
     held-arity c h =
@@ -107,52 +109,80 @@ module _ (bytes : List ℕ) where
               is = rw e₁ (some-inj (sym q ∙ w) ∙ ap code (zero-add j));
             }
 
-pub in-range : (file index : List ℕ) → Indexed file index → NumbersInRange (programIn file)
-unfolding arityOf
-in-range file index ok = record {
-  few = λ c. go c (constructor (programIn file) c) refl;
-  at = λ f i ins e.
-      let p = placed bytes there f i ins e in
-      (held-inputs bytes there f (p .function) .1, omega (arith, p .first, p .last, there .function f (p .function) .short-code));
-}
-  where
-    bytes : List ℕ
-    bytes = payload file
+---- A parsed file
 
-    there : RecordsThere (payload file)
-    there = records-there (payload file) (ok .parsed .records)
-
-    go : (c : ℕ) (o : Option Constructor) → constructor (programIn file) c ≡ o → arity (programIn file) c ≤ 4
-    go c none e = rw e (omega arith)
-    go c (some k) e =
-        let h : c < byteAt (payload file) 2 = omega (arith, at-less (programIn file .constructors) c e, constructor-count (payload file)) in
-        let a = held-arity (payload file) there c h in
-        omega (arith, a .0, a .2)
-
-module _ (file index : List ℕ) (ok : Indexed file index) where
+module _ {file : List ℕ} (parsed : Parsed file) where
   there : RecordsThere (payload file)
-  there = records-there (payload file) (ok .parsed .records)
+  there = records-there (payload file) (parsed .records)
 
+  pub in-range : NumbersInRange (programIn file)
+  unfolding arityOf
+  in-range = record {
+    few = λ c. go c (constructor (programIn file) c) refl;
+    at = λ f i ins e.
+        let p = placed (payload file) there f i ins e in (
+          held-inputs (payload file) there f (p .function) .1,
+          omega (arith, p .first, p .last, there .function f (p .function) .short-code),
+        );
+  }
+    where
+      go : (c : ℕ) (o : Option Constructor) → constructor (programIn file) c ≡ o → arity (programIn file) c ≤ 4
+      go c none e = rw e (omega arith)
+      go c (some k) e =
+          let n = constructor-count (payload file) in
+          let h : c < byteAt (payload file) 2 = omega (arith, at-less (programIn file .constructors) c e) in
+          let a = held-arity (payload file) there c h in
+          omega (arith, a .0, a .2)
+
+  -- what is read of a constructor of the program
   pub constructor-read : (c : ℕ) → c < length (programIn file .constructors)
-      → (c < 64) × (constructorArity index c ≡ arity (programIn file) c) × (arity (programIn file) c ≤ 4)
+      → (c < byteAt (payload file) 2) × (constructorArity file c ≡ arity (programIn file) c) × (arity (programIn file) c ≤ 4)
   constructor-read c h =
       let h′ : c < byteAt (payload file) 2 = omega (arith, constructor-count (payload file)) in
       let a = held-arity (payload file) there c h′ in
-      (a .1, ok .constructor c h′ ∙ sym (a .0), omega (arith, a .0, a .2))
+      (h′, sym (a .0), omega (arith, a .0, a .2))
 
+  -- and of a function
   pub function-read : (f : ℕ) → f < length (programIn file .functions)
-      → (f < 32) × (functionArity index f ≡ inputs (programIn file) f) × (inputs (programIn file) f ≤ 4)
+      → (f < byteAt (payload file) 3) × (functionArity file f ≡ inputs (programIn file) f) × (inputs (programIn file) f ≤ 4) × (f < 32)
   function-read f h =
       let h′ : f < byteAt (payload file) 3 = omega (arith, function-count (payload file)) in
       let a = held-inputs (payload file) there f h′ in
-      (a .1, ok .function f h′ .arity ∙ sym (a .0), omega (arith, a .0, a .2))
+      (h′, sym (a .0), omega (arith, a .0, a .2), a .1)
+
+  -- where the arity of a constructor stands: its byte is in the file
+  pub arity-stands : (c place : ℕ) → c < byteAt (payload file) 2 → place ≡ placeOf (constructorOffset c + 1)
+      → (place < length file) × (byteAt file place ≡ constructorArity file c)
+  arity-stands c place h e =
+      let l : constructorOffset c + 1 < length (payload file) = omega (arith, there .constructor c h .0) in
+      rw e (verified-place (parsed .verified) (constructorOffset c + 1) l, verified-byte (parsed .verified) (constructorOffset c + 1) l)
+
+  -- a constructor's number and arity are small
+  pub constructor-small : (c : ℕ) → c < byteAt (payload file) 2 → (c < 64) × (constructorArity file c ≤ 4)
+  constructor-small c h = let a = held-arity (payload file) there c h in (a .1, a .2)
+
+  -- and a function's
+  pub function-small : (f : ℕ) → f < byteAt (payload file) 3 → (f < 32) × (functionArity file f ≤ 4)
+  function-small f h = let a = held-inputs (payload file) there f h in (a .1, a .2)
+
+---- An indexed one
+
+module _ (file index : List ℕ) (ok : Indexed file index) where
+  -- where the arity of a function stands
+  pub inputs-stand : (f place : ℕ) → f < byteAt (payload file) 3 → place ≡ arityAt index f
+      → (place < length file) × (byteAt file place ≡ functionArity file f)
+  inputs-stand f place h e =
+      let v = ok .parsed .verified in
+      let k : ℕ = headOffset (payload file) f + 1 in
+      let l : k < length (payload file) = omega (arith, there (ok .parsed) .function f h .head) in
+      rw (e ∙ ok .function f h .arity) (verified-place v k l, verified-byte v k l)
 
   -- instruction 0 is there, so its place is in the file
   pub code-stands : (f : ℕ) → f < length (programIn file .functions) → StandsAt file f 1 (codeAt index f) × (codeAt index f ≤ 33000)
   code-stands f h =
       let h′ : f < byteAt (payload file) 3 = omega (arith, function-count (payload file)) in
       let k : ℕ = codeOffset (payload file) (headOffset (payload file) f) in
-      let r = there .function f h′ in
+      let r = there (ok .parsed) .function f h′ in
       let e : codeAt index f ≡ placeOf k = ok .function f h′ .code in
       let short : k + 4 ≤ length (payload file) = omega (arith, r .instruction 0 (r .some-code) .0) in
       rw e (

@@ -15,24 +15,24 @@ use Rattle.rules.specs.Base.{byteAt, wordAt, isZero, if_then_else_}
 use Rattle.rules.specs.Container.{payload}
 use Rattle.rules.specs.Records.{instructionAt, operation, instructionOf, isSome, orElse, programIn}
 use Rattle.rules.specs.There.{RecordsThere}
+use Rattle.rules.specs.Established.{Parsed}
 use Rattle.rules.specs.Machine.{current}
 use Rattle.rules.proofs.ListLaws.{false-true}
 use Rattle.rules.proofs.RecordLaws.{records-there}
 use Rattle.fetch.specs.Arities.{place}
-use Rattle.fetch.specs.Indexed.{Indexed}
 use Rattle.fetch.specs.Places.{offsetAt, StandsAt}
 use Rattle.fetch.specs.Words.{WordThere}
 use Rattle.fetch.proofs.IndexLaws.{placed, function-count}
 
 ---- Where it stands
 
-pub instruction-there : (file index : List ℕ) → Indexed file index → (f i at : ℕ) (ins : Instruction) → StandsAt file f i at
+pub instruction-there : {file : List ℕ} → Parsed file → (f i at : ℕ) (ins : Instruction) → StandsAt file f i at
     → current (programIn file) (place f i) ≡ some ins
     → (offsetAt at + 4 ≤ length (payload file)) × (f < length (programIn file .functions)) × (i ≤ 256)
     × (isSome (operation (instructionAt (payload file) (offsetAt at))) ≡ true)
     × (ins ≡ instructionOf (instructionAt (payload file) (offsetAt at)))
-instruction-there file index ok f i at ins s e =
-    let there : RecordsThere (payload file) = records-there (payload file) (ok .parsed .records) in
+instruction-there {file} parsed f i at ins s e =
+    let there : RecordsThere (payload file) = records-there (payload file) (parsed .records) in
     let p = placed (payload file) there f i ins e in
     let r = there .function f (p .function) .instruction (i - 1) (p .last) in
     let short : i ≤ 256 = omega (arith, p .first, p .last, there .function f (p .function) .short-code) in

@@ -1,16 +1,7 @@
 // Places in the file, and the offsets in the payload that they stand for: each block has four bytes of marks, then 504, then a sum.
 ghost use mathlib.Core.Path.{_≡_};
 ghost use Prim.Native.Nat.{_+_, _*_, _-_, _/_, _≤_, _<_};
-ghost use Rattle.rules.specs.Container.{placeOf};
 ghost use Rattle.fetch.specs.Places.{offsetAt, Inside, Behind};
-
-// The place in the file of the byte at an offset of the payload.
-pub fn file_place(k: usize) -> usize
-    requires { ⌜ k ≤ 40000 ⌝ }
-    ensures { λ r. ⌜ r ≡ placeOf k ⌝ }
-{
-    k + 4 + 8 * (k / 504)
-}
 
 // The offset in the payload that a place in the file stands for.
 pub fn offset_at(at: usize) -> usize

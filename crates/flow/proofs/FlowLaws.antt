@@ -19,7 +19,7 @@ use Rattle.rules.specs.Stacks.{slot}
 use Rattle.rules.specs.Walk.{targets, hits, sources, first, arrivingFrom, arrivals, Arrow, arriving, rootAt, arrowTo}
 use Rattle.rules.specs.FlowRules.{Leads}
 use Rattle.rules.specs.Flow.{passing, leavesRight, arrivesRight, pastAt, flowRule, flowOf}
-use Rattle.tables.specs.declared.code.Code.{Code}
+use Rattle.program.specs.declared.code.Code.{Code}
 use Rattle.flow.specs.declared.FlowStep.{FlowStep}
 use Rattle.flow.specs.FlowSteps.{Waits, nowhere, clear, behind, several, joinOf, nothing, FlowSays}
 use Rattle.rules.proofs.ListLaws.{some-inj, false-true, and-left}
@@ -27,7 +27,7 @@ use Rattle.rules.proofs.PassLaws.{Passing, pass-first, pass-stop, pass-next, pa
 use Rattle.rules.proofs.RuleLaws.{passing-all}
 use Rattle.rules.proofs.WalkLaws.{origin-leads, origin-next, origin-before, sources-more}
 use Rattle.rules.proofs.WalkingLaws.{soFar, so-far-here, so-far-start, so-far-other, so-far-new, arriving-two}
-use Rattle.tables.proofs.CodeLaws.{codeAt, CodeThere, code-short, code-length, code-slot, code-along}
+use Rattle.program.proofs.CodeLaws.{codeAt, CodeThere, code-short, code-length, code-slot, code-along}
 
 ---- What a slot holds
 

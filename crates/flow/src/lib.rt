@@ -9,9 +9,9 @@ ghost use Rattle.rules.specs.Answers.{toldCheck};
 ghost use Rattle.rules.specs.Base.{found};
 ghost use Rattle.rules.specs.Container.{payload};
 ghost use Rattle.rules.specs.Flow.{passing, leavesRight, flowOf, flowRight};
-ghost use Rattle.rules.specs.Established.{Verified, Headed};
-ghost use Rattle.rules.specs.Records.{programIn, functionIn, orElse};
-ghost use Rattle.tables.specs.Tables.{FunctionRows, RowThere};
+ghost use Rattle.rules.specs.Established.{Verified, LaidOut};
+ghost use Rattle.rules.specs.There.{FunctionThere};
+ghost use Rattle.rules.specs.Records.{functionOf, programIn, orElse};
 ghost use Rattle.flow.specs.FlowSteps.{Waits, joinOf, nothing, FlowSays};
 use rules::answers::Checked;
 use rules::answers::Place;
@@ -115,12 +115,12 @@ fn flow_step(i: usize, last: usize, ins: Instruction, arrived: u8) -> FlowStep
     }
 }
 
-// The flow of function g, which has this row: a slot for each instruction has what arrives there, and slot 0 what goes nowhere.
-fn flow_of(file: &[u8], g: usize, row: [u16; 9]) -> Checked
-    requires { ⌜ Verified (now file) × RowThere (payload (now file)) g row ⌝ }
-    ensures { λ r. ⌜ toldCheck r ≡ flowOf g (functionIn (now (file .entry)) g) ⌝ }
+// The flow of function g, whose head stands at an offset: a slot for each instruction has what arrives there, and slot 0 what goes nowhere.
+fn flow_of(file: &[u8], g: usize, at: usize) -> Checked
+    requires { ⌜ Verified (now file) × FunctionThere (payload (now file)) at ⌝ }
+    ensures { λ r. ⌜ toldCheck r ≡ flowOf g (functionOf (payload (now (file .entry))) at) ⌝ }
 {
-    let code = tables::code_of(row);
+    let code = program::code_at(file, at);
     let last = code.last;
     let mut waiting = [0u8; 257];
     waiting[1] = 1;
@@ -145,14 +145,14 @@ fn flow_of(file: &[u8], g: usize, row: [u16; 9]) -> Checked
 }
 
 // For the crates above: number 7 over all functions.
-pub fn flows(file: &[u8], header: Header, functions: &[[u16; 9]; 32]) -> Checked
-    requires { ⌜ Headed (now file) header × FunctionRows (payload (now file)) (header .functions) (now functions) ⌝ }
+pub fn flows(file: &[u8], header: Header, heads: &[usize; 32]) -> Checked
+    requires { ⌜ LaidOut (now file) header (now heads) ⌝ }
     ensures { λ r. ⌜ toldCheck r ≡ flowRight (programIn (now (file .entry))) ⌝ }
 {
     let m = header.functions as usize;
     let mut g: usize = 0;
     while g < m {
-        let found = flow_of(file, g, functions[g]);
+        let found = flow_of(file, g, heads[g]);
         if let Checked::Refused(reason) = found {
             return Checked::Refused(reason);
         }

@@ -135,13 +135,13 @@ module _ {file index : List ℕ} {m : Limits} {entry n : ℕ} {arguments : List 
             (e .spared .of-stack .len) (frames-kept-length _ _ _ (e .spared-frames))
 
         -- what delivering asks
-        pub ended : (i : ℕ) × (ws : List Frame) × Ended file index m budget says cells₂ stack₂ u i ws
+        pub ended : (i : ℕ) × (ws : List Frame) × Ended file m budget says cells₂ stack₂ u i ws
         ended =
             let (i, ws, x) = ends in (
               i,
               ws,
               record {
-                indexed = b .callable .indexed;
+                parsed = b .callable .indexed .parsed;
                 lent = record {
                   cell-room = wiping .cell-room;
                   few-cells = wiping .few-cells;

@@ -87,9 +87,9 @@ module _ (file index : List ℕ) (m : Limits) (cells stack : List ℕ) (frames :
         (framesIn frames₁ (r₁ .depth))
     stands₁ = drove .leads (r .left) (begun .instruction) (omega arith) (begun .standing) .1 .standing
 
-    pub ready-now : r₁ .why ≡ 0 → Ready file index m cells₁ stack₁ r₁
+    pub ready-now : r₁ .why ≡ 0 → Ready file m cells₁ stack₁ r₁
     ready-now e = record {
-      indexed = begun .indexed;
+      parsed = begun .indexed .parsed;
       lent = lent-of m cells₁ stack₁ frames₁ limits₁;
       going = e;
       instruction = at₁;
@@ -98,7 +98,7 @@ module _ (file index : List ℕ) (m : Limits) (cells stack : List ℕ) (frames :
     }
 
     pub settled-ready : Verified file × Inside (r₁ .at) × (offsetAt (r₁ .at) + 4 ≤ length (payload file))
-    settled-ready = fetch-there file index (begun .indexed) m cells₁ stack₁ r₁ at₁ (framesIn frames₁ (r₁ .depth)) stands₁
+    settled-ready = fetch-there file (begun .indexed .parsed) m cells₁ stack₁ r₁ at₁ (framesIn frames₁ (r₁ .depth)) stands₁
 
     -- the run is at its end
     pub drove-ends : (r₁ .why ≡ 0 → ⊥) → {t : Registers} → Settles (payload file) r₁ t → t .left ≡ r₁ .left
@@ -111,7 +111,7 @@ module _ (file index : List ℕ) (m : Limits) (cells stack : List ℕ) (frames :
           let x = drove .leads budget i fits ok in (
             x .0,
             framesIn frames₁ (r₁ .depth),
-            settled-ends file index (begun .indexed) m budget _ cells₁ stack₁ r₁ (x .0) (framesIn frames₁ (r₁ .depth)) (x .1 .standing)
+            settled-ends file (begun .indexed .parsed) m budget _ cells₁ stack₁ r₁ (x .0) (framesIn frames₁ (r₁ .depth)) (x .1 .standing)
                 (frames-length frames₁ (r₁ .depth)) (omega (arith, drove .fewer)) (x .2 n) (drove .over n) (x .1 .same) settles,
           );
     }
@@ -145,9 +145,9 @@ module _ (file index : List ℕ) (m : Limits) (cells stack : List ℕ) (frames :
           }
 
       module _ (stack₃ : List ℕ) (frames₃ : List Frame) (t₃ : Registers)
-          (turns-to : (f cs : List ℕ) → Rested f index m cs stack₂ frames₁ t → Turned f m cs stack₂ frames₁ t stack₃ frames₃ t₃) where
+          (turns-to : (cs : List ℕ) → Rested file index m cs stack₂ frames₁ t → Turned file m cs stack₂ frames₁ t stack₃ frames₃ t₃) where
         turned : Turned file m cells₂ stack₂ frames₁ t stack₃ frames₃ t₃
-        turned = turns-to file cells₂ rested-now
+        turned = turns-to cells₂ rested-now
 
         pub turn-less : r₁ .why ≡ 0 → turns (t₃ .why) (t₃ .left) < turns (r₁ .why) (r₁ .left)
         turn-less e = turns-less (r₁ .why) (r₁ .left) (t₃ .why) (t₃ .left) e (λ z. omega (arith, turned .less z, pauses .fewer))

@@ -10,6 +10,7 @@ use lib.Dec.{eqb}
 use borrow.Author.Tests.{eqb-true, eqb-false}
 use Rattle.rules.specs.Base.{refusal}
 use Rattle.rules.specs.Container.{payload}
+use Rattle.rules.specs.Established.{Parsed}
 use Rattle.rules.specs.Heap.{Heap, HeapFrame, HeapState, heapState, valueOf, frameOf, stateOf, executeOn, heapStep}
 use Rattle.rules.specs.HeapRun.{endOn, resultOn, continuedOn}
 use Rattle.rules.specs.Machine.{Frame as Framed, current, returned, resultOf, top}
@@ -30,7 +31,6 @@ use Rattle.store.specs.declared.limits.Limits.{Limits}
 use Rattle.store.proofs.RefLaws.{refs-top}
 use Rattle.store.proofs.CellLaws.{heap-length}
 use Rattle.fetch.specs.Arities.{place}
-use Rattle.fetch.specs.Indexed.{Indexed}
 use Rattle.fetch.specs.Places.{offsetAt}
 use Rattle.fetch.specs.Words.{WordThere}
 use Rattle.steps.specs.Stands.{waitingOn, topOn, stateIn, Standing, answersOn}
@@ -156,10 +156,10 @@ module _ (file : List ℕ) (m : Limits) (budget : ℕ) (cells stack : List ℕ) 
       go (v ∷ vs) z = waiting-some (programIn file) heap fr₁ _ _
 
   -- or the instruction is no return
-  pub no-return : (index : List ℕ) → Indexed file index → {w : ℕ} → WordThere (payload file) (offsetAt (r .at)) w → (w % 256 ≡ 5 → ⊥)
+  pub no-return : Parsed file → {w : ℕ} → WordThere (payload file) (offsetAt (r .at)) w → (w % 256 ≡ 5 → ⊥)
       → endOn (programIn file) heap (fr₁ ∷ others) ≡ none
   unfolding returned
-  no-return index indexed {w} word n = one (eqb (w % 256) 1) refl
+  no-return parsed {w} word n = one (eqb (w % 256) 1) refl
     where
       none-here : {ins : Instruction} → current (programIn file) (place (r .function) i) ≡ some ins
           → returned (programIn file) ins (fr₁ .stack) ≡ none → endOn (programIn file) heap (fr₁ ∷ others) ≡ none
@@ -168,25 +168,25 @@ module _ (file : List ℕ) (m : Limits) (budget : ℕ) (cells stack : List ℕ) 
       four : (t : Bool) → (w % 256 ≡ 1 → ⊥) → (w % 256 ≡ 2 → ⊥) → (w % 256 ≡ 3 → ⊥) → eqb (w % 256) 4 ≡ t
           → endOn (programIn file) heap (fr₁ ∷ others) ≡ none
       four true n₁ n₂ n₃ e =
-          none-here (at-branch file index indexed m cells stack r i ws ok word (eqb-true (w % 256) 4 e)) refl
+          none-here (at-branch file parsed m cells stack r i ws ok word (eqb-true (w % 256) 4 e)) refl
       four false n₁ n₂ n₃ e =
-          none-here (at-stop file index indexed m cells stack r i ws ok word n₁ n₂ n₃ (eqb-false (w % 256) 4 e) n) refl
+          none-here (at-stop file parsed m cells stack r i ws ok word n₁ n₂ n₃ (eqb-false (w % 256) 4 e) n) refl
 
       three : (t : Bool) → (w % 256 ≡ 1 → ⊥) → (w % 256 ≡ 2 → ⊥) → eqb (w % 256) 3 ≡ t → endOn (programIn file) heap (fr₁ ∷ others) ≡ none
-      three true n₁ n₂ e = none-here (at-call file index indexed m cells stack r i ws ok word (eqb-true (w % 256) 3 e)) refl
+      three true n₁ n₂ e = none-here (at-call file parsed m cells stack r i ws ok word (eqb-true (w % 256) 3 e)) refl
       three false n₁ n₂ e = four (eqb (w % 256) 4) n₁ n₂ (eqb-false (w % 256) 3 e) refl
 
       two : (t : Bool) → (w % 256 ≡ 1 → ⊥) → eqb (w % 256) 2 ≡ t → endOn (programIn file) heap (fr₁ ∷ others) ≡ none
-      two true n₁ e = none-here (at-build file index indexed m cells stack r i ws ok word (eqb-true (w % 256) 2 e)) refl
+      two true n₁ e = none-here (at-build file parsed m cells stack r i ws ok word (eqb-true (w % 256) 2 e)) refl
       two false n₁ e = three (eqb (w % 256) 3) n₁ (eqb-false (w % 256) 2 e) refl
 
       one : (t : Bool) → eqb (w % 256) 1 ≡ t → endOn (programIn file) heap (fr₁ ∷ others) ≡ none
-      one true e = none-here (at-load file index indexed m cells stack r i ws ok word (eqb-true (w % 256) 1 e)) refl
+      one true e = none-here (at-load file parsed m cells stack r i ws ok word (eqb-true (w % 256) 1 e)) refl
       one false e = two (eqb (w % 256) 2) (eqb-false (w % 256) 1 e) refl
 
 ---- The end of a run
 
-module _ (file index : List ℕ) (indexed : Indexed file index) (m : Limits) (budget : ℕ) (said : Outcome) (cells stack : List ℕ)
+module _ (file : List ℕ) (parsed : Parsed file) (m : Limits) (budget : ℕ) (said : Outcome) (cells stack : List ℕ)
     (r : Registers) (i : ℕ) (ws : List Frame) (ok : Standing file m cells stack r i ws) (depth : length ws ≡ r .depth)
     (fits : r .left ≤ budget) (rests : Rests file m budget cells stack r i ws) (over : 2 < r .why)
     (same : said ≡ answersOn (programIn file) m budget cells stack r i ws) where
@@ -245,11 +245,10 @@ module _ (file index : List ℕ) (indexed : Indexed file index) (m : Limits) (bu
       ends-so (λ e. same ∙ spent-ends file m budget cells stack r i ws ok (waiting-on file m budget cells stack r i ws ok
       (λ z. n (sym depth ∙ z))) (rests .spent e))
   settled-ends (settles-spent d word n) =
-      ends-so (λ e. same ∙ spent-ends file m budget cells stack r i ws ok (no-return file m budget cells stack r i ws ok index indexed word
-      n)
+      ends-so (λ e. same ∙ spent-ends file m budget cells stack r i ws ok (no-return file m budget cells stack r i ws ok parsed word n)
       (rests .spent e))
   settled-ends (settles-result e d word five) =
-      let cur = at-return file index indexed m cells stack r i ws ok word five in
+      let cur = at-return file parsed m cells stack r i ws ok word five in
       record {
         standing = halted file m budget cells stack r i ws fits ok (r .callee) 3 .standing;
         result = λ _. with-result (depth ∙ d) cur;

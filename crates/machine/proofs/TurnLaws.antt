@@ -6,6 +6,8 @@ use mathlib.Core.Option.{some}
 use native.Mathlib.Omega.{arith}
 use native.Mathlib.Numerals.{add-one}
 use lib.ListN.{length, getD, set}
+use Rattle.rules.specs.Base.{byteAt}
+use Rattle.rules.specs.Container.{payload}
 use Rattle.rules.specs.Machine.{current}
 use Rattle.rules.specs.Records.{programIn}
 use Rattle.rules.specs.declared.records.Instruction.the-variants.{Call, Return}
@@ -17,7 +19,7 @@ use Rattle.store.proofs.RefLaws.{length-refs, put-one, put-kept, kept-refl}
 use Rattle.store.proofs.FrameLaws.{frames-length, frames-put, frames-below, frames-top, frame-put-kept, frames-kept-refl}
 use Rattle.store.proofs.FrameLaws.{frame-room-less, frame-room-length}
 use Rattle.fetch.specs.Arities.{inputs, place}
-use Rattle.fetch.specs.Indexed.{functionArity, codeAt}
+use Rattle.fetch.specs.Indexed.{Indexed, functionArity, codeAt}
 use Rattle.fetch.specs.Places.{offsetAt, Inside, StandsAt}
 use Rattle.fetch.proofs.IndexLaws.{in-range, function-read, code-stands}
 use Rattle.fetch.proofs.PlaceLaws.{stands-number}
@@ -49,7 +51,7 @@ module _ (file index : List ℕ) (m : Limits) (cells stack : List ℕ) (frames :
   ok = rested .standing
 
   here-known : r .function < length (programIn file .functions)
-  here-known = function-there file index (rested .indexed) m cells stack r i ws ok
+  here-known = function-there file (rested .indexed .parsed) m cells stack r i ws ok
 
   ---- Call
 
@@ -64,7 +66,7 @@ module _ (file index : List ℕ) (m : Limits) (cells stack : List ℕ) (frames :
 
   pub waiting-small : (r .function < 32) × (r .base ≤ r .top) × (r .top ≤ 65535)
   waiting-small = (
-    function-read file index (rested .indexed) (r .function) here-known .0,
+    function-read (rested .indexed .parsed) (r .function) here-known .3,
     ok .laid .bottom,
     omega (arith, ok .laid .places, rested .limits .few-places),
   )
@@ -83,16 +85,12 @@ module _ (file index : List ℕ) (m : Limits) (cells stack : List ℕ) (frames :
     cur : current (programIn file) (place (r .function) (rested .instruction)) ≡ some (Call (r .callee))
     cur = rested .rests .calls calls .1
 
-    callee : (r .callee < 32) × (functionArity index (r .callee) ≡ inputs (programIn file) (r .callee))
-        × (inputs (programIn file) (r .callee) ≤ 4)
-    callee = function-read file index (rested .indexed) (r .callee) (call-known file m cells stack r i ws ok cur)
+    callee : (r .callee < byteAt (payload file) 3) × (functionArity file (r .callee) ≡ inputs (programIn file) (r .callee))
+        × (inputs (programIn file) (r .callee) ≤ 4) × (r .callee < 32)
+    callee = function-read (rested .indexed .parsed) (r .callee) (call-known file m cells stack r i ws ok cur)
 
-    pub enter-ready : (r .callee < 32) × (functionArity index (r .callee) ≤ 4) × (functionArity index (r .callee) ≤ r .top)
-    enter-ready = (
-      callee .0,
-      omega (arith, callee .1, callee .2),
-      omega (arith, callee .1, call-deep file m cells stack r i ws ok cur),
-    )
+    pub enter-ready : Indexed file index × (r .callee < byteAt (payload file) 3) × (functionArity file (r .callee) ≤ r .top)
+    enter-ready = (rested .indexed, callee .0, omega (arith, callee .1, call-deep file m cells stack r i ws ok cur))
 
     pub enter-room : (r .top ≤ m .stack) × (m .stack ≤ length stack) × (m .stack ≤ 65535) × (r .depth < 65535) × (0 < r .left)
     enter-room = (
@@ -179,7 +177,7 @@ module _ (file index : List ℕ) (m : Limits) (cells stack : List ℕ) (frames :
       turned-by (enter-goes {stack′ = copy} f g p) = entered-turned copy f g p
 
       pub call-turned : {stack′ : List ℕ} {t : Registers}
-          → Enters m stack r (functionArity index (r .callee)) (codeAt index (r .callee)) stack′ t
+          → Enters m stack r (functionArity file (r .callee)) (codeAt index (r .callee)) stack′ t
           → Turned file m cells stack frames r stack′ frames′ t
       call-turned {stack′} {t} x =
           turned-by (subst (λ (n : ℕ). Enters m stack r n (codeAt index (r .callee)) stack′ t) (callee .1) x)
@@ -252,21 +250,22 @@ module _ (file index : List ℕ) (m : Limits) (cells stack : List ℕ) (frames :
         ≡ some (Call (r .function))
     called = leave-linked file m cells stack r i w vs (on-w i ok) returns-here .3
 
-    here-arity : (r .function < 32) × (functionArity index (r .function) ≡ inputs (programIn file) (r .function))
-        × (inputs (programIn file) (r .function) ≤ 4)
-    here-arity = function-read file index (rested .indexed) (r .function) here-known
+    here-arity : (r .function < byteAt (payload file) 3) × (functionArity file (r .function) ≡ inputs (programIn file) (r .function))
+        × (inputs (programIn file) (r .function) ≤ 4) × (r .function < 32)
+    here-arity = function-read (rested .indexed .parsed) (r .function) here-known
 
     range : (frameIn frames (r .depth - 1) .function < 32) × (frameIn frames (r .depth - 1) .instruction ≤ 256)
-    range = in-range file index (rested .indexed) .at (w .function) (w .instruction) (Call (r .function)) called
+    range = in-range (rested .indexed .parsed) .at (w .function) (w .instruction) (Call (r .function)) called
 
     code-there : StandsAt file (frameIn frames (r .depth - 1) .function) 1 (codeAt index (frameIn frames (r .depth - 1) .function))
         × (codeAt index (frameIn frames (r .depth - 1) .function) ≤ 33000)
     code-there = code-stands file index (rested .indexed) (w .function)
         (current-known (programIn file) (w .function) (w .instruction) called)
 
-    pub leave-ready : (r .function < 32) × (functionArity index (r .function) ≤ r .base) × (r .base < r .top) × (r .top ≤ length stack)
-        × (r .top ≤ 65535)
+    pub leave-ready : Indexed file index × (r .function < byteAt (payload file) 3) × (functionArity file (r .function) ≤ r .base)
+        × (r .base < r .top) × (r .top ≤ length stack) × (r .top ≤ 65535)
     leave-ready = (
+      rested .indexed,
       here-arity .0,
       omega (arith, here-arity .1, high, enough),
       leave-deep file m cells stack r i w vs (on-w i ok) returns-here,
@@ -290,10 +289,10 @@ module _ (file index : List ℕ) (m : Limits) (cells stack : List ℕ) (frames :
         → Turned file m cells stack frames r stack′ frames t
     turned-back (leave-goes {at = at} behind near) =
         let n = inputs (programIn file) (r .function) in
-        let there : r .base - n < length stack = omega (arith, leave-ready .2, leave-ready .3) in
+        let there : r .base - n < length stack = omega (arith, leave-ready .3, leave-ready .4) in
         record {
           spared-stack = put-kept (r .base - n) _ stack _ (put-one stack (r .base - n) _ there) (m .stack)
-              (omega (arith, leave-ready .2, ok .laid .places));
+              (omega (arith, leave-ready .3, ok .laid .places));
           spared-frames = frames-kept-refl (m .frames) frames;
           fewer = omega arith;
           less = λ _. omega (arith, rested .rests .returns e .0);
@@ -309,8 +308,8 @@ module _ (file index : List ℕ) (m : Limits) (cells stack : List ℕ) (frames :
         }
 
     pub leave-turned : (x : Frame) → x ≡ frameIn frames (r .depth - 1) → {stack′ : List ℕ} {t : Registers}
-        → Leaves stack r x (functionArity index (r .function)) (codeAt index (x .function)) stack′ t
+        → Leaves stack r x (functionArity file (r .function)) (codeAt index (x .function)) stack′ t
         → Turned file m cells stack frames r stack′ frames t
     leave-turned x q {stack′} {t} l =
         turned-back (subst (λ (n : ℕ). Leaves stack r w n (codeAt index (w .function)) stack′ t) (here-arity .1)
-        (subst (λ (y : Frame). Leaves stack r y (functionArity index (r .function)) (codeAt index (y .function)) stack′ t) q l))
+        (subst (λ (y : Frame). Leaves stack r y (functionArity file (r .function)) (codeAt index (y .function)) stack′ t) q l))

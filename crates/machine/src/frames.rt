@@ -14,7 +14,9 @@ use store::wide16;
 ghost use mathlib.Core.Path.{_≡_};
 ghost use Prim.Native.Nat.{_+_, _-_, _/_, _≤_, _<_};
 ghost use lib.ListN.{length};
-ghost use Rattle.fetch.specs.Indexed.{functionArity, codeAt};
+ghost use Rattle.rules.specs.Base.{byteAt};
+ghost use Rattle.rules.specs.Container.{payload};
+ghost use Rattle.fetch.specs.Indexed.{Indexed, functionArity, codeAt};
 ghost use Rattle.fetch.specs.Places.{offsetAt, Inside};
 ghost use Rattle.machine.specs.Turns.{waitingFor, Enters, Leaves};
 
@@ -32,14 +34,21 @@ pub fn waiting(r: Registers) -> Frame
 }
 
 // Call: above the frame comes the function that it calls, with copies of its arguments.
-pub fn enter(index: &[u32; 128], stack: &mut [u16], m: Limits, r: Registers) -> Registers
-    requires { ⌜ ((r .callee < 32) × (functionArity (now index) (r .callee) ≤ 4) × (functionArity (now index) (r .callee) ≤ r .top))
+pub fn enter(
+    file: &[u8],
+    index: &[u32; 64],
+    stack: &mut [u16],
+    m: Limits,
+    r: Registers,
+) -> Registers
+    requires { ⌜ (Indexed (now file) (now index) × (r .callee < byteAt (payload (now file)) 3)
+        × (functionArity (now file) (r .callee) ≤ r .top))
         × ((r .top ≤ m .stack) × (m .stack ≤ length (now stack)) × (m .stack ≤ 65535) × (r .depth < 65535) × (0 < r .left)) ⌝ }
-    ensures { λ t. ⌜ Enters m (now (stack .entry)) r (functionArity (now (index .entry)) (r .callee))
+    ensures { λ t. ⌜ Enters m (now (stack .entry)) r (functionArity (now (file .entry)) (r .callee))
         (codeAt (now (index .entry)) (r .callee)) (now (stack .exit)) t ⌝ }
 {
     let g = r.callee;
-    let n = function_arity(index, g);
+    let n = function_arity(file, index, g);
     let top = r.top;
     let depth = r.depth + 1;
     if depth >= m.frames {
@@ -65,15 +74,15 @@ pub fn enter(index: &[u32; 128], stack: &mut [u16], m: Limits, r: Registers) -> 
 }
 
 // Return: the waiting frame goes on behind its call, and the call's arguments give way to the top value.
-pub fn leave(index: &[u32; 128], stack: &mut [u16], r: Registers, w: Frame) -> Registers
-    requires { ⌜ ((r .function < 32) × (functionArity (now index) (r .function) ≤ r .base) × (r .base < r .top)
-        × (r .top ≤ length (now stack)) × (r .top ≤ 65535))
+pub fn leave(file: &[u8], index: &[u32; 64], stack: &mut [u16], r: Registers, w: Frame) -> Registers
+    requires { ⌜ (Indexed (now file) (now index) × (r .function < byteAt (payload (now file)) 3)
+        × (functionArity (now file) (r .function) ≤ r .base) × (r .base < r .top) × (r .top ≤ length (now stack)) × (r .top ≤ 65535))
         × ((w .function < 32) × (w .instruction ≤ 256) × (w .height ≤ r .base) × Inside (codeAt (now index) (w .function))
         × (codeAt (now index) (w .function) ≤ 33000)) × ((0 < r .depth) × (0 < r .left)) ⌝ }
-    ensures { λ t. ⌜ Leaves (now (stack .entry)) r w (functionArity (now (index .entry)) (r .function))
+    ensures { λ t. ⌜ Leaves (now (stack .entry)) r w (functionArity (now (file .entry)) (r .function))
         (codeAt (now (index .entry)) (w .function)) (now (stack .exit)) t ⌝ }
 {
-    let n = function_arity(index, r.function);
+    let n = function_arity(file, index, r.function);
     let under = r.base - n;
     stack[under] = stack[r.top - 1];
     let function = wide16(w.function);

@@ -59,22 +59,24 @@ fn over(r: Registers) -> Registers
 
 // A frame that rests at a call or a return gives way to another. Proved by hand, since it holds the table.
 fn turn(
-    index: &[u32; 128],
+    file: &[u8],
+    index: &[u32; 64],
     stack: &mut [u16],
     frames: &mut [Frame],
     m: Limits,
     r: Registers,
 ) -> Registers
-    requires { ⌜ ((file cells : List ℕ) × Rested file (now index) m cells (now stack) (now frames) r) ⌝ }
-    ensures { λ t. ⌜ ((file cells : List ℕ) → Rested file (now (index .entry)) m cells (now (stack .entry)) (now (frames .entry)) r
-        → Turned file m cells (now (stack .entry)) (now (frames .entry)) r (now (stack .exit)) (now (frames .exit)) t) ⌝ }
+    requires { ⌜ ((cells : List ℕ) × Rested (now file) (now index) m cells (now stack) (now frames) r) ⌝ }
+    ensures { λ t. ⌜ ((cells : List ℕ)
+        → Rested (now (file .entry)) (now (index .entry)) m cells (now (stack .entry)) (now (frames .entry)) r
+        → Turned (now (file .entry)) m cells (now (stack .entry)) (now (frames .entry)) r (now (stack .exit)) (now (frames .exit)) t) ⌝ }
 {
     if r.why == CALLS {
         put_frame(frames, r.depth, waiting(r));
-        return enter(index, stack, m, r);
+        return enter(file, index, stack, m, r);
     }
     if goes_back(r) {
-        return leave(index, stack, r, frame_at(frames, below(r)));
+        return leave(file, index, stack, r, frame_at(frames, below(r)));
     }
     over(r)
 }
@@ -100,7 +102,7 @@ fn settled(file: &[u8], r: Registers) -> Registers
 // For the crates above: the run from a state on. Proved by hand, since it holds the table.
 pub fn drive(
     file: &[u8],
-    index: &[u32; 128],
+    index: &[u32; 64],
     cells: &mut [u16],
     stack: &mut [u16],
     frames: &mut [Frame],
@@ -113,8 +115,8 @@ pub fn drive(
 {
     let mut r = start;
     while r.why == GOES {
-        let t = straight(file, index, cells, stack, m, r);
-        r = turn(index, stack, frames, m, t);
+        let t = straight(file, cells, stack, m, r);
+        r = turn(file, index, stack, frames, m, t);
     }
     settled(file, r)
 }

@@ -3,10 +3,8 @@ use mathlib.Core.Path.{_≡_, sym, ap, subst, _∙_}
 use mathlib.Core.List.{List}
 use mathlib.Core.Bool.{true}
 use mathlib.Core.Option.{Option, none, some}
-use Prim.Native.Nat.{ℕ, _+_, _≤_}
+use Prim.Native.Nat.{ℕ, _+_}
 use native.Mathlib.Omega.{arith}
-use lib.ListN.{length}
-use borrow.Author.Tests.{le-leb}
 use Rattle.rules.specs.declared.records.Alternative.{Alternative}
 use Rattle.rules.specs.declared.records.Instruction.{Instruction}
 use Rattle.rules.specs.declared.records.Instruction.the-variants.{Stop}
@@ -25,26 +23,18 @@ use Rattle.rules.proofs.ContainerLaws.{verified-length}
 use Rattle.rules.proofs.NumberedLaws.{numbered-length, numbered-is}
 use Rattle.rules.proofs.RecordLaws.{records-there, arguments-length}
 use Rattle.rules.proofs.TriedLaws.{bind-found, found-inj}
-use Rattle.standing.specs.Found.{extent, whole, seen}
 use Rattle.opened.specs.Opened.{countsFrom, countsIn, FunctionRead, OpenExact}
-use Rattle.standing.proofs.StandingLaws.{standing-length, standing-payload, seen-whole}
+use Rattle.standing.proofs.StandingLaws.{seen-payload}
 
 is-some : {A : Type 0} (o : Option A) (b : A) {a : A} → isSome o ≡ true → orElse o b ≡ a → o ≡ some a
 is-some none b t e = let z : _≡_ {A = ℕ} 0 1 = cc in absurd (omega arith)
 is-some (some x) b t e = ap some e
 
 module _ {file : List ℕ} (v : Verified file) where
-  -- a record of the payload is there whole, and read from it
-  seen-payload : (size at : ℕ) → at + size ≤ length (payload file) → (whole size file at ≡ true) × (seen size file at ≡ payload file)
-  seen-payload size at h =
-      let p = standing-payload file v in
-      let w = le-leb (at + size) (extent file) (omega (arith, ap length p, standing-length file)) in
-      (w, sym (seen-whole file size at w) ∙ p)
-
   function-read : (at : ℕ) → FunctionThere (payload file) at → FunctionRead file (functionOf (payload file) at) at
   unfolding functionOf instructionOf
   function-read at t =
-      let h = seen-payload 10 at (t .head) in
+      let h = seen-payload v 10 at (t .head) in
       let alternative : ℕ → Alternative = λ k. alternativeOf (byteAt (payload file) (at + 1)) (alternativeAt (payload file)
       (alternativeOffset at k)) in
       let instruction : ℕ → Instruction = λ i. instructionOf (instructionAt (payload file) (instructionOffset (codeOffset (payload file)
@@ -57,13 +47,13 @@ module _ {file : List ℕ} (v : Verified file) where
         instructions = ap (λ (l : List ℕ). wordAt l (at + 8)) (h .1) ∙ sym (numbered-length instruction _ 0);
         bound = λ k a e.
             let n = numbered-is alternative (byteAt (payload file) (at + 6)) k e in
-            let r = seen-payload 6 (alternativeOffset at k) (t .alternative k (n .0) .0) in
+            let r = seen-payload v 6 (alternativeOffset at k) (t .alternative k (n .0) .0) in
             (r .0, rw (r .1, arguments-length (payload file) at (t .arity)) (sym (n .1)));
         code = λ i ins e.
             let n = numbered-is instruction (wordAt (payload file) (at + 8)) i e in
             let o = instructionOffset (codeOffset (payload file) at) i in
             let there = t .instruction i (n .0) in
-            let r = seen-payload 4 o (there .0) in
+            let r = seen-payload v 4 o (there .0) in
             (r .0, rw (r .1) (is-some (operation (instructionAt (payload file) o)) Stop (there .1) (sym (n .1))));
       }
 

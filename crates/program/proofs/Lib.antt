@@ -1,2 +1,3 @@
 pub mod OpenLaws
 pub mod LayoutLaws
+pub mod CodeLaws

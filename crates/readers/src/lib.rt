@@ -1,14 +1,21 @@
-// The records of a payload: where each stands, and its fields, read from the lent blocks.
+// The records of a payload: where each stands, and its fields, read from the lent blocks. Most records end in the block that they begin in,
+// and each reader asks for that once: one division finds the place of the record, and its bytes are read there. The others go on behind
+// the block's end.
 ghost use mathlib.Core.Path.{_≡_};
 ghost use Prim.Native.Nat.{_+_, _≤_, _<_};
 ghost use lib.ListN.{length};
-ghost use Rattle.rules.specs.Base.{byteAt, wordAt};
 ghost use Rattle.rules.specs.Container.{payload};
-ghost use Rattle.rules.specs.Records.{fourAt, headerAt, declarationAt, constructorAt, headAt, alternativeAt, instructionAt, operation};
-ghost use Rattle.rules.specs.Records.{instructionOf};
+ghost use Rattle.rules.specs.Records.{headerAt, declarationAt, constructorAt, headAt, alternativeAt, instructionAt, instructionOf};
+ghost use Rattle.rules.specs.Records.{constructorOffset};
 ghost use Rattle.rules.specs.Established.{Verified};
-use blocks::join;
-use blocks::payload_byte;
+use fields::alternative_from;
+use fields::constructor_from;
+use fields::declaration_from;
+use fields::head_from;
+use fields::header_from;
+use fields::instruction_from;
+use fields::left_in_block;
+use fields::place_of;
 use ranges::Fetched;
 use ranges::operation_of;
 use rules::records::AlternativeRecord;
@@ -19,7 +26,7 @@ use rules::records::Header;
 use rules::records::Instruction;
 use rules::records::InstructionRecord;
 
-mod offsets; // offsets.rt: where each record stands
+mod offsets; // offsets.rt: where each record stands in the payload
 
 pub use offsets::alternative_offset;
 pub use offsets::constructor_offset;
@@ -32,69 +39,12 @@ pub fn wide(b: u8) -> usize
     b as usize
 }
 
-// The number in the two bytes at an offset.
-fn word(file: &[u8], at: usize) -> u16
-    requires { ⌜ Verified (now file) × (at + 2 ≤ length (payload (now file))) ⌝ }
-    ensures { λ r. ⌜ r ≡ wordAt (payload (now (file .entry))) at ⌝ }
-{
-    join(payload_byte(file, at), payload_byte(file, at + 1))
-}
-
-fn four(file: &[u8], at: usize) -> [u8; 4]
-    requires { ⌜ Verified (now file) × (at + 4 ≤ length (payload (now file))) ⌝ }
-    ensures { λ r. ⌜ r ≡ fourAt (payload (now (file .entry))) at ⌝ }
-{
-    [
-        payload_byte(file, at),
-        payload_byte(file, at + 1),
-        payload_byte(file, at + 2),
-        payload_byte(file, at + 3),
-    ]
-}
-
-// For the crates above: the header.
+// For the crates above: the header, which stands at the first place of the first block.
 pub fn header(file: &[u8]) -> Header
     requires { ⌜ Verified (now file) × (4 ≤ length (payload (now file))) ⌝ }
     ensures { λ r. ⌜ r ≡ headerAt (payload (now (file .entry))) 0 ⌝ }
 {
-    Header {
-        edition: payload_byte(file, 0),
-        types: payload_byte(file, 1),
-        constructors: payload_byte(file, 2),
-        functions: payload_byte(file, 3),
-    }
-}
-
-// A byte of the first block, which is found without a division.
-fn early(file: &[u8], k: usize) -> u8
-    requires { ⌜ Verified (now file) × (k < length (payload (now file))) × (k < 504) ⌝ }
-    ensures { λ r. ⌜ r ≡ byteAt (payload (now (file .entry))) k ⌝ }
-{
-    file[k + 4]
-}
-
-fn early_four(file: &[u8], at: usize) -> [u8; 4]
-    requires { ⌜ Verified (now file) × (at + 4 ≤ length (payload (now file))) × (at + 4 ≤ 504) ⌝ }
-    ensures { λ r. ⌜ r ≡ fourAt (payload (now (file .entry))) at ⌝ }
-{
-    [
-        early(file, at),
-        early(file, at + 1),
-        early(file, at + 2),
-        early(file, at + 3),
-    ]
-}
-
-// A declaration in the first block, where most constructors stand. An argument check reads one for each byte.
-fn early_declaration(file: &[u8], at: usize) -> Declaration
-    requires { ⌜ Verified (now file) × (at + 6 ≤ length (payload (now file))) × (at + 6 ≤ 504) ⌝ }
-    ensures { λ r. ⌜ r ≡ declarationAt (payload (now (file .entry))) at ⌝ }
-{
-    Declaration {
-        result: early(file, at),
-        arity: early(file, at + 1),
-        types: early_four(file, at + 2),
-    }
+    header_from(file, 4, 4)
 }
 
 // For the crates above: what a constructor and a function head both begin with.
@@ -102,22 +52,23 @@ pub fn declaration(file: &[u8], at: usize) -> Declaration
     requires { ⌜ Verified (now file) × (at + 6 ≤ length (payload (now file))) ⌝ }
     ensures { λ r. ⌜ r ≡ declarationAt (payload (now (file .entry))) at ⌝ }
 {
-    if at + 6 <= 504 {
-        return early_declaration(file, at);
+    let left = left_in_block(at);
+    if left >= 6 {
+        return declaration_from(file, place_of(at), 6);
     }
-    Declaration {
-        result: payload_byte(file, at),
-        arity: payload_byte(file, at + 1),
-        types: four(file, at + 2),
-    }
+    declaration_from(file, place_of(at), left)
 }
 
-// For the crates above: the arity in the declaration at an offset.
-pub fn arity(file: &[u8], at: usize) -> u8
-    requires { ⌜ Verified (now file) × (at + 2 ≤ length (payload (now file))) ⌝ }
-    ensures { λ r. ⌜ r ≡ byteAt (payload (now (file .entry))) (at + 1) ⌝ }
+// For the crates above: the declaration of constructor c. The first 62 end in the first block, where the place follows from the number: an
+// argument check reads one for each byte.
+pub fn constructor_declaration(file: &[u8], c: usize) -> Declaration
+    requires { ⌜ Verified (now file) × (constructorOffset c + 6 ≤ length (payload (now file))) ⌝ }
+    ensures { λ r. ⌜ r ≡ declarationAt (payload (now (file .entry))) (constructorOffset c) ⌝ }
 {
-    payload_byte(file, at + 1)
+    if c < 62 {
+        return declaration_from(file, 8 + 8 * c, 6);
+    }
+    declaration(file, constructor_offset(c))
 }
 
 // For the crates above: the constructor at an offset.
@@ -125,11 +76,11 @@ pub fn constructor(file: &[u8], at: usize) -> ConstructorRecord
     requires { ⌜ Verified (now file) × (at + 8 ≤ length (payload (now file))) ⌝ }
     ensures { λ r. ⌜ r ≡ constructorAt (payload (now (file .entry))) at ⌝ }
 {
-    ConstructorRecord {
-        declaration: declaration(file, at),
-        weight: payload_byte(file, at + 6),
-        reserved: payload_byte(file, at + 7),
+    let left = left_in_block(at);
+    if left >= 8 {
+        return constructor_from(file, place_of(at), 8);
     }
+    constructor_from(file, place_of(at), left)
 }
 
 // For the crates above: the function head at an offset.
@@ -137,12 +88,11 @@ pub fn head(file: &[u8], at: usize) -> HeadRecord
     requires { ⌜ Verified (now file) × (at + 10 ≤ length (payload (now file))) ⌝ }
     ensures { λ r. ⌜ r ≡ headAt (payload (now (file .entry))) at ⌝ }
 {
-    HeadRecord {
-        declaration: declaration(file, at),
-        alternatives: payload_byte(file, at + 6),
-        reserved: payload_byte(file, at + 7),
-        instructions: word(file, at + 8),
+    let left = left_in_block(at);
+    if left >= 10 {
+        return head_from(file, place_of(at), 10);
     }
+    head_from(file, place_of(at), left)
 }
 
 // For the crates above: the alternative at an offset.
@@ -150,10 +100,11 @@ pub fn alternative(file: &[u8], at: usize) -> AlternativeRecord
     requires { ⌜ Verified (now file) × (at + 6 ≤ length (payload (now file))) ⌝ }
     ensures { λ r. ⌜ r ≡ alternativeAt (payload (now (file .entry))) at ⌝ }
 {
-    AlternativeRecord {
-        coefficients: four(file, at),
-        constant: word(file, at + 4),
+    let left = left_in_block(at);
+    if left >= 6 {
+        return alternative_from(file, place_of(at), 6);
     }
+    alternative_from(file, place_of(at), left)
 }
 
 // For the crates above: the bytes of the instruction at an offset.
@@ -161,11 +112,11 @@ pub fn instruction_record(file: &[u8], at: usize) -> InstructionRecord
     requires { ⌜ Verified (now file) × (at + 4 ≤ length (payload (now file))) ⌝ }
     ensures { λ r. ⌜ r ≡ instructionAt (payload (now (file .entry))) at ⌝ }
 {
-    InstructionRecord {
-        operation: payload_byte(file, at),
-        a: payload_byte(file, at + 1),
-        b: word(file, at + 2),
+    let left = left_in_block(at);
+    if left >= 4 {
+        return instruction_from(file, place_of(at), 4);
     }
+    instruction_from(file, place_of(at), left)
 }
 
 // For the crates above: the instruction at an offset, where its record is right.

@@ -7,6 +7,7 @@ use native.Mathlib.Omega.{arith}
 use native.Mathlib.Numerals.{add-one}
 use native.Mathlib.Nat.{add-zero, add-suc, suc-add, add-comm, not-suc-le-zero, le-of-suc-le-suc}
 use lib.ListN.{length, take, drop, getD, length-append, length-take, length-drop, length-replicate, List·getD-append}
+use lib.ListN.{List·getD-eq-default}
 use lib.Seq.{drop-cons, drop-drop, getD-append-add, getD-take, getD-drop, length-take-le}
 use lib.Dec.{leb, ltb, eqb}
 use borrow.Author.Tests.{leb-true, ltb-true, ltb-false, eqb-true, eqb-false, eq-eqb, ne-eqb}
@@ -213,6 +214,14 @@ module _ {file : List ℕ} (v : Verified file) where
   verified-byte k h =
       sym (payload-byte (length file / 512) 0 file (omega (arith, verified-whole file (v .blocks))) (verified-parts file (v .blocks) .1) k
       h)
+
+  -- a payload byte is a byte of the blocks, or past the payload's end and 0
+  pub byte-small : ((k : ℕ) → getD file k 0 < 256) → (k : ℕ) → byteAt (payload file) k < 256
+  byte-small small k = go (ltb k (length (payload file))) refl
+    where
+      go : (t : Bool) → ltb k (length (payload file)) ≡ t → byteAt (payload file) k < 256
+      go true l = rw (← verified-byte k (ltb-true k _ l)) (small _)
+      go false l = rw (List·getD-eq-default (payload file) 0 {n = k} (ltb-false k _ l)) (omega arith)
 
 ---- How long blocks are
 

@@ -52,3 +52,5 @@ pub mod WriteLaws
 pub mod CheckLaws
 pub mod WordsSmall
 pub mod Constants
+pub mod SameLaws
+pub mod Unpacked

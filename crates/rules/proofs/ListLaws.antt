@@ -8,9 +8,9 @@ use Prim.Native.Nat.{ℕ, zero, suc, _+_, _-_, _≤_, _<_, zero-le, suc-le-suc}
 use native.Mathlib.Omega.{arith}
 use native.Mathlib.Nat.{add-zero, not-suc-le-zero, le-of-suc-le-suc}
 use lib.ListN.{length, take, drop, getElem?, getD, set, length-drop, take-append-drop}
-use lib.Seq.{sets}
+use lib.Seq.{sets, getD-set-same, getD-set-other}
 use lib.Dec.{leb, ltb, eqb}
-use borrow.Author.Tests.{leb-true, le-leb, ltb-true, lt-ltb, eqb-true, eq-eqb}
+use borrow.Author.Tests.{leb-true, le-leb, ltb-true, lt-ltb, eqb-true, eqb-false, eq-eqb}
 use Rattle.rules.specs.Base.{isZero, all, any, if_then_else_}
 use Rattle.rules.specs.Stacks.{slot, split}
 use Rattle.rules.specs.Lists.{All, l[], _l∷_, Any, here, there, All2, a[], _a∷_}
@@ -311,3 +311,12 @@ sets-append l i [] ws = rw add-zero
 sets-append l i (v ∷ vs) ws =
     let e : suc i + length vs ≡ i + suc (length vs) = omega arith in
     sets-append (set l i v) (suc i) vs ws ∙ ap (λ (k : ℕ). sets (sets (set l i v) (suc i) vs) k ws) e
+
+-- what holds of each of the first i entries, after a store at i
+pub stored-each : {A : Type 0} (d : A) (P : ℕ → A → Type 0) (r : List A) (i : ℕ) (x : A) → i < length r
+    → ((j : ℕ) → j < i → P j (getD r j d)) → P i x → (j : ℕ) → j < i + 1 → P j (getD (set r i x) j d)
+stored-each d P r i x h q p j l = go (eqb j i) refl
+  where
+    go : (t : Bool) → eqb j i ≡ t → P j (getD (set r i x) j d)
+    go true e = rw (eqb-true j i e, getD-set-same r i x d h) p
+    go false e = rw (getD-set-other r i j x d (eqb-false j i e)) (q j (omega (arith, eqb-false j i e)))

@@ -39,3 +39,4 @@ pub mod Promise
 pub mod Facts
 pub mod Constants
 pub mod WordRules
+pub mod Unpacked

@@ -6,7 +6,7 @@ use mathlib.Core.Option.{none, some}
 use Prim.Native.Nat.{ℕ, zero, suc, _+_, _*_, _≤_, _<_}
 use native.Mathlib.Omega.{arith}
 use native.Mathlib.Nat.{zero-add}
-use lib.ListN.{length, getD, take, length-map}
+use lib.ListN.{length, getD, set, take, length-map, length-set}
 use lib.Seq.{getD-take, length-take-le, ext-getD}
 use Rattle.rules.specs.declared.records.Alternative.{Alternative}
 use Rattle.rules.specs.Program.{Constructor, Function, Program, arity, constructor}
@@ -19,15 +19,17 @@ use Rattle.rules.specs.Lists.{All}
 use Rattle.sizing.specs.Splits.{variableE, through, splitA, carried, SplitsRight, Numbered, Tidy, Loose, Carrying, noSplit}
 use Rattle.sizing.specs.States.{stackIn, splitsIn}
 use Rattle.rules.specs.Records.{alternativeOf}
-use Rattle.rules.proofs.ListLaws.{all-mapped}
-use Rattle.sizing.specs.declared.forms.Bound.{Bound}
-use Rattle.sizing.specs.Forms.{formIn, noForm, noRow, BoundRight, boundIn}
+use Rattle.rules.proofs.ListLaws.{all-mapped, stored-each}
+use Rattle.rules.proofs.NumberedLaws.{numbered-all}
+use Rattle.sizing.specs.declared.bounds.Bound.{Bound}
+use Rattle.sizing.specs.Forms.{formIn, noForm}
+use Rattle.sizing.specs.Bounds.{rowIn, boundIn, BoundRight}
 use Rattle.sizing.specs.Right.{ownAt, shapeIn, SavedRight, LineRight}
-use Rattle.sizing.specs.Steps.{FormsAsks, FormsAre, ownRow, OwnAsks, OwnIs}
+use Rattle.sizing.specs.Steps.{EntryAsks, EntryIs, FormsAre, ownRow, OwnAsks, ownAfter, OwnIs}
 use Rattle.sizing.proofs.SplitLaws.{form-through, numbered-le}
 use Rattle.sizing.proofs.CodeLaws.{put-loose, loose-unit, loose-below}
 use Rattle.sizing.proofs.OwnLaws.{own-through, own-rows, variable-form, wideRow, RowFits, widened-wide, widened-constant, widened-at}
-use Rattle.sizing.proofs.ListLaws.{getD-of-map, map-same, all-taken}
+use Rattle.sizing.proofs.ListLaws.{getD-of-map, map-numbered, numbered-same}
 use Rattle.sizing.proofs.StepLaws.{under-get}
 
 -- what decoding gives
@@ -78,15 +80,22 @@ row-tidy n a few r =
     beyond (x ∷ l) (suc i) h = beyond l i (omega arith)
 
 -- the bound of a function with n parameters, whose rows are padded by zeros
-pub record OwnBound (n : ℕ) (b : Bound) : Type 0 where
-  pub right : BoundRight b
-  pub fits : (i : ℕ) → i < b .count → RowFits n (alternativeOf n (getD (b .rows) i noRow))
-  pub padded : (i : ℕ) → i < b .count → ownRow (getD (b .rows) i noRow) ≡ wideRow (alternativeOf n (getD (b .rows) i noRow))
+pub record OwnBound (bytes : List ℕ) (n : ℕ) (b : Bound) : Type 0 where
+  pub right : BoundRight bytes b
+  pub fits : (k : ℕ) → k < b .count → RowFits n (alternativeOf n (rowIn bytes b k))
+  pub padded : (k : ℕ) → k < b .count → ownRow (rowIn bytes b k) ≡ wideRow (alternativeOf n (rowIn bytes b k))
 
-pub rows-fit : (n : ℕ) (b : Bound) → OwnBound n b → (bound : List Alternative) → boundIn n b ≡ bound → All (RowFits n) bound
-rows-fit n b o bound is =
-    rw (← is) (all-mapped (alternativeOf n) (λ row h. h)
-    (all-taken (λ row. RowFits n (alternativeOf n row)) noRow (b .rows) (b .count) (o .fits)))
+pub rows-fit : {bytes : List ℕ} {n : ℕ} {b : Bound} → OwnBound bytes n b → {bound : List Alternative} → boundIn bytes n b ≡ bound
+    → All (RowFits n) bound
+rows-fit {bytes} {n} {b} o is =
+    rw (← is) (numbered-all (λ k. alternativeOf n (rowIn bytes b k)) (b .count) 0 (λ k l. rw (zero-add k) (o .fits k l)))
+
+-- one more entry has its form
+pub forms-next : {st : Saved} {n : ℕ} {fs : List Form} {x : Form} → FormsAre st n fs → n < 20 → EntryIs st n x
+    → FormsAre st (n + 1) (set fs n x)
+forms-next {st} {n} {fs} {x} a l e =
+    let long = a .long in
+    record { long = length-set fs n x ∙ a .long; each = stored-each noForm (EntryIs st) fs n x (omega arith) (a .each) e }
 
 module _ (s : Program) (f : Function) (st : Saved) (r : SavedRight s f st) (light : ByteWeights s) where
   splits-length : length (splitsIn st) ≡ st .taken
@@ -112,25 +121,27 @@ module _ (s : Program) (f : Function) (st : Saved) (r : SavedRight s f st) (ligh
             at (light-at (splitsIn st) i (omega arith) (light-of s light (splitsIn st) (r .path .right)));
       }
 
-  pub stack-asks : FormsAsks st
-  stack-asks =
+  -- what is on the stack has come up
+  come-up : (i : ℕ) → i < st .height → getD (st .stack) i 0 < st .count
+  come-up i h =
+      let z = stack-length in
+      rw (getD-take (st .height) (st .stack) i 0 h) at (under-get (st .count) (stackIn st) i (omega arith) (r .under))
+
+  pub entry-asks : (i : ℕ) → i < st .height → EntryAsks st i
+  entry-asks i h =
+      let high = r .high in
+      let small : getD (st .stack) i 0 < 16 = omega (arith, come-up i h, r .path .few) in
       record {
-        high = r .high;
+        place = omega arith;
         small = small;
-        carrying = λ i h. carrying-of (variableOnly (getD (st .stack) i 0)) (loose-unit (arity f) 65535 (getD (st .stack) i 0) (small i h));
+        carrying = carrying-of (variableOnly (getD (st .stack) i 0)) (loose-unit (arity f) 65535 (getD (st .stack) i 0) small);
       }
-    where
-      small : (i : ℕ) → i < st .height → getD (st .stack) i 0 < 16
-      small i h =
-          let z = stack-length in let y = r .path .few in
-          let u = rw (getD-take (st .height) (st .stack) i 0 h) at (under-get (st .count) (stackIn st) i (omega arith) (r .under)) in
-          omega arith
 
   form-at : (v : ℕ) → formOf s (through (splitsIn st) (variableE v)) ≡ carried (splitsIn st) (variableOnly v) ∷ []
   form-at v = form-through s (splitsIn st) (r .path .right) (variableE v) ∙ ap (map (carried (splitsIn st))) (variable-form s v)
 
   -- the forms of the stack
-  stack-same : (fs : List Form) → FormsAre st fs
+  stack-same : (fs : List Form) → FormsAre st (st .height) fs
       → map (formOf s) (map (λ v. through (splitsIn st) (variableE v)) (stackIn st)) ≡ map formIn (take (st .height) fs)
   stack-same fs a =
       ext-getD [] (map (formOf s) (map (λ v. through (splitsIn st) (variableE v)) (stackIn st))) (map formIn (take (st .height) fs))
@@ -157,13 +168,14 @@ module _ (s : Program) (f : Function) (st : Saved) (r : SavedRight s f st) (ligh
       second = length-map (take (st .height) fs) formIn ∙ fs-length
 
   -- the function's own bound, as the code has it
-  module _ (few : arity f ≤ 16) (b : Bound) (o : OwnBound (arity f) b) (is : boundIn (arity f) b ≡ f .bound) where
-    pub own-asks : OwnAsks b (record { taken = st .taken; list = st .list })
+  module _ (few : arity f ≤ 16) (bytes : List ℕ) (b : Bound) (o : OwnBound bytes (arity f) b)
+      (is : boundIn bytes (arity f) b ≡ f .bound) where
+    pub own-asks : OwnAsks bytes b (record { taken = st .taken; list = st .list })
     own-asks = record {
       bound = o .right;
       carrying =
-          λ i h. carrying-of (ownRow (getD (b .rows) i noRow))
-          (rw (o .padded i h) (inl (row-tidy (arity f) (alternativeOf (arity f) (getD (b .rows) i noRow)) few (o .fits i h))));
+          λ k h. carrying-of (ownRow (rowIn bytes b k))
+          (rw (o .padded k h) (inl (row-tidy (arity f) (alternativeOf (arity f) (rowIn bytes b k)) few (o .fits k h))));
     }
 
     own-below : (bound : List Alternative) → All (RowFits (arity f)) bound
@@ -178,23 +190,19 @@ module _ (s : Program) (f : Function) (st : Saved) (r : SavedRight s f st) (ligh
         w)
 
     -- all entries are covered, and small
-    pub converted : (fs : List Form) (own : Form) → FormsAre st fs → OwnIs b (record { taken = st .taken; list = st .list }) own
-        → LineRight s f (shapeIn f st) own fs (st .height)
+    pub converted : (fs : List Form) (own : Form) → FormsAre st (st .height) fs
+        → OwnIs bytes b (record { taken = st .taken; list = st .list }) own → LineRight s f (shapeIn f st) own fs (st .height)
     converted fs own a w =
         record {
           bound = w .right;
-          most =
-              rw (own-is, own-rows s (arity f) (f .bound) (rows-fit (arity f) b o (f .bound) is))
-              (own-below (f .bound) (rows-fit (arity f) b o (f .bound) is));
+          most = rw (own-is, own-rows s (arity f) (f .bound) (rows-fit o is)) (own-below (f .bound) (rows-fit o is));
           shaped = own-is ∙ sym (own-through s f (splitsIn st) (r .path .right));
           long = a .long;
           high = r .high;
           held = λ i h. record {
             right = a .each i h .right;
             some = let z = a .each i h .one in omega arith;
-            covered = rw (own-is, a .each i h .same) (r .path .covered (getD (st .stack) i 0)
-                (let z = stack-length in rw (getD-take (st .height) (st .stack) i 0 h) at (under-get (st .count) (stackIn st) i
-                (omega arith) (r .under))));
+            covered = rw (own-is, a .each i h .same) (r .path .covered (getD (st .stack) i 0) (come-up i h));
           };
           same = stack-same fs a;
         }
@@ -202,9 +210,10 @@ module _ (s : Program) (f : Function) (st : Saved) (r : SavedRight s f st) (ligh
         own-is : formIn own ≡ map (carried (splitsIn st)) (ownAt s f)
         own-is =
             w .same
-            ∙ map-same (λ row. carried (splitsIn st) (ownRow row)) (λ row. carried (splitsIn st) (wideRow (alternativeOf (arity f) row)))
-            noRow (b .rows) (b .count) (λ i h. ap (carried (splitsIn st)) (o .padded i h))
-            ∙ sym (map-map (λ a. carried (splitsIn st) (wideRow a)) (alternativeOf (arity f)) (take (b .count) (b .rows)))
+            ∙ numbered-same (ownAfter bytes b (record { taken = st .taken; list = st .list }))
+            (λ k. carried (splitsIn st) (wideRow (alternativeOf (arity f) (rowIn bytes b k)))) (b .count)
+            (λ k h. ap (carried (splitsIn st)) (o .padded k h))
+            ∙ sym (map-numbered (λ a. carried (splitsIn st) (wideRow a)) (λ k. alternativeOf (arity f) (rowIn bytes b k)) (b .count) 0)
             ∙ ap (map (λ a. carried (splitsIn st) (wideRow a))) is
             ∙ sym (map-map (carried (splitsIn st)) wideRow (f .bound))
-            ∙ ap (map (carried (splitsIn st))) (sym (own-rows s (arity f) (f .bound) (rows-fit (arity f) b o (f .bound) is)))
+            ∙ ap (map (carried (splitsIn st))) (sym (own-rows s (arity f) (f .bound) (rows-fit o is)))

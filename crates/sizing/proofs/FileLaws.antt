@@ -1,12 +1,12 @@
 -- What a file whose records are right and which 6, 7 and 8 pass gives: its functions, constructors and bounds as the code reads them.
-use mathlib.Core.Path.{_≡_, refl, sym, ap, _∙_}
-use mathlib.Core.List.{List, [], _∷_, map}
+use mathlib.Core.Path.{_≡_, refl, ap, _∙_}
+use mathlib.Core.List.{List, [], _∷_}
 use mathlib.Core.Option.{some}
 use mathlib.Core.Bool.{true}
 use Prim.Native.Nat.{ℕ, zero, suc, _+_, _-_, _≤_, _<_, zero-le}
 use native.Mathlib.Omega.{arith}
-use lib.ListN.{length, take, drop, getD, length-map, List·getD-map}
-use lib.Seq.{getD-take, length-take-le, ext-getD}
+use lib.ListN.{length, take, drop, getD}
+use lib.Seq.{length-take-le}
 use lib.Dec.{leb, ltb}
 use borrow.Author.Tests.{leb-true}
 use Rattle.rules.specs.Base.{refusal, numbered, isZero, all, any, byteAt, wordAt, passed}
@@ -20,35 +20,22 @@ use Rattle.rules.specs.Stacks.{slot}
 use Rattle.rules.specs.Flow.{flowOf, flowRight}
 use Rattle.rules.specs.Types.{typesOf, typesRight}
 use Rattle.rules.specs.There.{FunctionThere}
-use Rattle.rules.proofs.ListLaws.{getD-element, and-left, and-right, all-true, all-getD}
+use Rattle.rules.proofs.ListLaws.{and-left, and-right, all-true, all-getD}
 use Rattle.rules.proofs.TriedLaws.{required}
 use Rattle.rules.proofs.NumberedLaws.{numbered-length, numbered-is, numbered-there}
 use Rattle.rules.proofs.RecordLaws.{arguments-length}
-use Rattle.tables.proofs.TableLaws.{byte-small}
-use Rattle.sizing.specs.declared.forms.Bound.{Bound}
-use Rattle.sizing.specs.Forms.{boundIn, noRow, BoundRight}
-use Rattle.sizing.specs.Routines.{NameTables, BoundIs}
+use Rattle.rules.proofs.ContainerLaws.{byte-small}
+use Rattle.sizing.specs.declared.bounds.Bound.{Bound}
+use Rattle.sizing.specs.Bounds.{rowIn, boundIn, BoundRight}
+use Rattle.sizing.specs.Routines.{BoundIs}
 use Rattle.sizing.specs.Walking.{Walking}
-use Rattle.sizing.proofs.ListLaws.{element-at}
+use Rattle.sizing.proofs.ListLaws.{element-at, numbered-same}
 use Rattle.sizing.proofs.OwnLaws.{widened-past}
 use Rattle.sizing.proofs.ConvertLaws.{ByteWeights, OwnBound}
 use Rattle.rules.proofs.EachLaws.{each-from-0, each-from-1}
 use Rattle.rules.proofs.Accepted.{FlowsRightly, flows-rightly}
 
--- a list by its elements
-numbered-list : {A B : Type 0} (g : A → B) (d : A) (f : ℕ → A) (xs : List A) (n : ℕ) → n ≤ length xs → ((k : ℕ) → k < n → getD xs k d ≡ f k)
-    → map g (take n xs) ≡ numbered (λ k. g (f k)) 0 n
-numbered-list g d f xs n l h =
-    let a = length-map (take n xs) g ∙ length-take-le n xs l in
-    let b = numbered-length (λ k. g (f k)) n 0 in
-    ext-getD (g d) (map g (take n xs)) (numbered (λ k. g (f k)) 0 n) (a ∙ sym b)
-    (λ i m. let k : i < n = rw a at m in
-    at i k ∙ sym (getD-element (g d) (numbered (λ k. g (f k)) 0 n) i (numbered-there (λ k. g (f k)) n i k)))
-  where
-    at : (i : ℕ) → i < n → getD (map g (take n xs)) i (g d) ≡ g (f i)
-    at i k = List·getD-map g (take n xs) i d ∙ ap g (getD-take n xs i d k ∙ h i k)
-
-module _ {file : List ℕ} {ts : NameTables} (w : Walking file ts) where
+module _ {file heads : List ℕ} (w : Walking file heads) where
   ---- Constructors
 
   pub constructor-named : (c : ℕ) (k : Constructor) → constructor (programIn file) c ≡ some k → (c < byteAt (payload file) 2)
@@ -146,15 +133,17 @@ module _ {file : List ℕ} {ts : NameTables} (w : Walking file ts) where
 
     ---- The bound
 
-    module _ (b : Bound) (is : BoundIs (payload file) (headOffset (payload file) g)
-        (byteAt (payload file) (headOffset (payload file) g + 6)) b) where
-      row-is : (i : ℕ) → i < b .count → getD (b .rows) i noRow
-          ≡ alternativeAt (payload file) (alternativeOffset (headOffset (payload file) g) i)
-      row-is i l = is .rows i (omega (arith, is .count-is))
+    module _ (b : Bound) (is : BoundIs (payload file) (headOffset (payload file) g) b) where
+      row-is : (i : ℕ) → rowIn (payload file) b i ≡ alternativeAt (payload file) (alternativeOffset (headOffset (payload file) g) i)
+      unfolding rowIn
+      row-is i = rw (is .read, is .head)
+
+      counted-in : (i : ℕ) → i < b .count → i < byteAt (payload file) (headOffset (payload file) g + 6)
+      counted-in i l = rw (is .count) at l
 
       row-right : (i : ℕ) → i < b .count → alternativeRight (byteAt (payload file) (headOffset (payload file) g + 1))
           (alternativeAt (payload file) (alternativeOffset (headOffset (payload file) g) i)) ≡ true
-      row-right i l = here .alternative i (omega (arith, is .count-is)) .1
+      row-right i l = here .alternative i (counted-in i l) .1
 
       small-at : (i : ℕ) → i < b .count → (k : ℕ)
           → getD (fourAt (payload file) (alternativeOffset (headOffset (payload file) g) i)) k 0 ≤ 15
@@ -166,41 +155,42 @@ module _ {file : List ℕ} {ts : NameTables} (w : Walking file ts) where
           (fourAt (payload file) (alternativeOffset (headOffset (payload file) g) i)))
           (all (λ c. leb c 15) (fourAt (payload file) (alternativeOffset (headOffset (payload file) g) i))) (row-right i l)))
 
-      pub bound-right : BoundRight b
+      constant-small : (i : ℕ) → wordAt (payload file) (alternativeOffset (headOffset (payload file) g) i + 4) ≤ 65535
+      constant-small i =
+          let at = alternativeOffset (headOffset (payload file) g) i + 4 in
+          omega (
+            arith,
+            byte-small (w .records .verified) (w .records .bytes) at,
+            byte-small (w .records .verified) (w .records .bytes) (at + 1),
+          )
+
+      pub bound-right : BoundRight (payload file) b
       bound-right =
-          let c = is .count-is in let lo = here .some-alternatives in let hi = here .few-alternatives in
+          let c = is .count in let lo = here .some-alternatives in let hi = here .few-alternatives in
           record {
             some = omega arith;
             few = omega arith;
-            four = is .long;
-            each = λ i l. rw (row-is i l) (record {
-              four = refl;
-              small = small-at i l;
-              constant =
-                  omega (
-                    arith,
-                    byte-small (w .records .verified) (w .records .bytes) (alternativeOffset (headOffset (payload file) g)
-                        i + 4),
-                    byte-small (w .records .verified) (w .records .bytes) (alternativeOffset (headOffset (payload file) g)
-                        i + 4 + 1),
-                  );
-            });
+            there = λ i l _. rw (is .head) (here .alternative i (counted-in i l) .0);
+            each = λ i l. rw (row-is i) (record { four = refl; small = small-at i l; constant = constant-small i });
           }
 
-      pub bound-is : boundIn (byteAt (payload file) (headOffset (payload file) g + 1)) b ≡ functionIn file g .bound
+      rows-are : boundIn (payload file) (byteAt (payload file) (headOffset (payload file) g + 1)) b ≡ functionIn file g .bound
       unfolding functionOf
-      bound-is =
-          let c = is .count-is in let l = is .long in let hi = here .few-alternatives in
-          ap (λ (k : ℕ). map (alternativeOf (byteAt (payload file) (headOffset (payload file) g + 1))) (take k (b .rows))) c
-          ∙ numbered-list (alternativeOf (byteAt (payload file) (headOffset (payload file) g + 1))) noRow
-          (λ k. alternativeAt (payload file) (alternativeOffset (headOffset (payload file) g) k)) (b .rows)
-          (byteAt (payload file) (headOffset (payload file) g + 6)) (omega arith) (is .rows)
+      rows-are =
+          let n = byteAt (payload file) (headOffset (payload file) g + 1) in
+          ap (numbered (λ k. alternativeOf n (rowIn (payload file) b k)) 0) (is .count)
+          ∙ numbered-same (λ k. alternativeOf n (rowIn (payload file) b k))
+          (λ k. alternativeOf n (alternativeAt (payload file) (alternativeOffset (headOffset (payload file) g) k)))
+          (byteAt (payload file) (headOffset (payload file) g + 6)) (λ k l. ap (alternativeOf n) (row-is k))
 
-      pub own-bound : OwnBound (byteAt (payload file) (headOffset (payload file) g + 1)) b
+      pub bound-is : boundIn (payload file) (arity (functionIn file g)) b ≡ functionIn file g .bound
+      bound-is = rw arity-is rows-are
+
+      rows-own : OwnBound (payload file) (byteAt (payload file) (headOffset (payload file) g + 1)) b
       unfolding alternativeOf alternativeRight
-      own-bound = record {
+      rows-own = record {
         right = bound-right;
-        fits = λ i l. rw (row-is i l) (record {
+        fits = λ i l. rw (row-is i) (record {
           narrow =
               omega (
                 arith,
@@ -210,15 +200,9 @@ module _ {file : List ℕ} {ts : NameTables} (w : Walking file ts) where
           small =
               λ k. taken (byteAt (payload file) (headOffset (payload file) g + 1))
               (fourAt (payload file) (alternativeOffset (headOffset (payload file) g) i)) k (small-at i l k);
-          constant =
-              omega (
-                arith,
-                byte-small (w .records .verified) (w .records .bytes) (alternativeOffset (headOffset (payload file) g)
-                    i + 4),
-                byte-small (w .records .verified) (w .records .bytes) (alternativeOffset (headOffset (payload file) g) i + 4 + 1),
-              );
+          constant = constant-small i;
         });
-        padded = λ i l. rw (row-is i l)
+        padded = λ i l. rw (row-is i)
             (widened-past (byteAt (payload file) (headOffset (payload file) g + 1)) 0
             (fourAt (payload file) (alternativeOffset (headOffset (payload file) g) i))
             (wordAt (payload file) (alternativeOffset (headOffset (payload file) g) i + 4))
@@ -235,3 +219,6 @@ module _ {file : List ℕ} {ts : NameTables} (w : Walking file ts) where
           taken (suc m) [] k h = h
           taken (suc m) (x ∷ xs) zero h = h
           taken (suc m) (x ∷ xs) (suc k) h = taken m xs k h
+
+      pub own-bound : OwnBound (payload file) (arity (functionIn file g)) b
+      own-bound = rw arity-is rows-own

@@ -25,5 +25,4 @@ pub mod StraightLaws
 pub mod MoveLaws
 pub mod SlotLaws
 pub mod SizesLaws
-pub mod RowLaws
 pub mod OneLaws

@@ -21,12 +21,11 @@ use Rattle.rules.specs.Expressions.{Symbol, built, called, Expression}
 use Rattle.rules.specs.Forms as forms
 use Rattle.rules.specs.Forms.{matches, covers, formOf, formsOf, substituted, intoBound, builtForm, calledForm}
 use Rattle.rules.specs.Shapes.{Shape, withStack, coveredAt, enter, shapeFrom, shapeRule}
-use Rattle.rules.proofs.ListLaws.{false-true, and-left, and-right}
+use Rattle.rules.proofs.ListLaws.{false-true, and-left, and-right, stored-each}
 use Rattle.sizing.specs.declared.forms.Form.{Form}
 use Rattle.sizing.specs.Put.{Wide, AllWide, Bounded, AllBounded}
 use Rattle.sizing.specs.Forms.{formIn, Entry, FormMade, noForm}
 use Rattle.sizing.specs.Right.{Held, LineRight}
-use Rattle.tables.proofs.TableLaws.{stored-each}
 use Rattle.sizing.proofs.ListLaws.{all-holds, all-last-fails, element-at, getD-of-map, map-take, map-drop, drop-take, take-stored}
 use Rattle.sizing.proofs.CoverLaws.{matches-under}
 use Rattle.sizing.proofs.RightLaws.{form-length}

@@ -1,16 +1,15 @@
--- Lists: what a test over all elements says, maps of parts, and what a store does.
+-- Lists: what a test over all elements says, maps of parts, lists by number, and what a store does.
 use mathlib.Core.Path.{_≡_, refl, ap, _∙_}
-use mathlib.Core.List.{List, [], _∷_, _++_, map, map-append}
+use mathlib.Core.List.{List, [], _∷_, _++_, map}
 use mathlib.Core.Bool.{Bool, true, false, _&&_}
 use mathlib.Core.Option.{some}
-use Prim.Native.Nat.{ℕ, zero, suc, _+_, _<_}
+use Prim.Native.Nat.{ℕ, zero, suc, _+_, _≤_, _<_}
 use native.Mathlib.Omega.{arith}
 use native.Mathlib.Numerals.{add-one}
-use native.Mathlib.Nat.{zero-add, suc-add}
+use native.Mathlib.Nat.{add-zero, zero-add, add-suc, suc-add}
 use lib.ListN.{length, getD, set, take, drop, getElem?}
-use lib.Seq.{take-suc, take-nil, take-suc-set}
-use Rattle.rules.specs.Base.{all}
-use Rattle.rules.specs.Lists.{All, l[], _l∷_}
+use lib.Seq.{take-nil, take-suc-set}
+use Rattle.rules.specs.Base.{all, numbered}
 
 pub and-both : (a b : Bool) → a ≡ true → b ≡ true → (a && b) ≡ true
 and-both a b p q = rw (p, q)
@@ -56,20 +55,31 @@ drop-take zero n xs = rw (zero-add n)
 drop-take {A} (suc k) n [] = rw (take-nil {A = A} (suc k + n), take-nil {A = A} n)
 drop-take (suc k) n (x ∷ xs) = rw (suc-add k n) (drop-take k n xs)
 
-pub map-next : {A B : Type 0} (d : A) (f : A → B) (l : List A) (i : ℕ) → i < length l → map f (take (i + 1) l) ≡ map f (take i l)
-    ++ (f (getD l i d) ∷ [])
-map-next d f l i h = rw (add-one i, take-suc l i d h) (map-append f (take i l) (getD l i d ∷ []))
+---- Lists by number
 
-pub map-same : {A B : Type 0} (f g : A → B) (d : A) (l : List A) (k : ℕ) → ((i : ℕ) → i < k → f (getD l i d) ≡ g (getD l i d))
-    → map f (take k l) ≡ map g (take k l)
-map-same f g d l zero h = refl
-map-same f g d [] (suc k) h = refl
-map-same f g d (x ∷ l) (suc k) h = let a = h 0 (omega arith) in let b = map-same f g d l k (λ i m. h (suc i) (omega arith)) in cc
+pub map-numbered : {A B : Type 0} (g : A → B) (f : ℕ → A) (n k : ℕ) → map g (numbered f k n) ≡ numbered (λ i. g (f i)) k n
+unfolding numbered
+map-numbered g f zero k = refl
+map-numbered g f (suc n) k = ap (λ (l : List _). g (f k) ∷ l) (map-numbered g f n (suc k))
 
-pub all-taken : {A : Type 0} (P : A → Type 0) (d : A) (l : List A) (k : ℕ) → ((i : ℕ) → i < k → P (getD l i d)) → All P (take k l)
-all-taken P d l zero h = l[]
-all-taken P d [] (suc k) h = l[]
-all-taken P d (x ∷ l) (suc k) h = _l∷_ {x = x} (h 0 (omega arith)) (all-taken P d l k (λ i m. h (suc i) (omega arith)))
+pub numbered-same : {A : Type 0} (f g : ℕ → A) (n : ℕ) → ((i : ℕ) → i < n → f i ≡ g i) → numbered f 0 n ≡ numbered g 0 n
+unfolding numbered
+numbered-same f g n h = go n 0 (λ i l m. h i (omega arith))
+  where
+    go : (n k : ℕ) → ((i : ℕ) → k ≤ i → i < k + n → f i ≡ g i) → numbered f k n ≡ numbered g k n
+    go zero k h = refl
+    go (suc n) k h =
+        let a = h k (omega arith) (omega arith) in
+        let b = go n (suc k) (λ i l m. h i (omega arith) (omega arith)) in
+        cc
+
+pub numbered-next : {A : Type 0} (f : ℕ → A) (n : ℕ) → numbered f 0 (n + 1) ≡ numbered f 0 n ++ (f n ∷ [])
+unfolding numbered
+numbered-next f n = rw (add-one n) (go n 0 ∙ ap (λ (i : ℕ). numbered f 0 n ++ (f i ∷ [])) (zero-add n))
+  where
+    go : (n k : ℕ) → numbered f k (suc n) ≡ numbered f k n ++ (f (k + n) ∷ [])
+    go zero k = rw add-zero
+    go (suc n) k = rw (add-suc k n, ← suc-add k n) (ap (λ (l : List _). f k ∷ l) (go n (suc k)))
 
 ---- A store
 

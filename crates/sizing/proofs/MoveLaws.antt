@@ -12,9 +12,10 @@ use Rattle.rules.specs.declared.answers.Checked.{Checked}
 use Rattle.rules.specs.declared.answers.Checked.the-variants as checked
 use Rattle.rules.specs.declared.answers.Reason.{Reason}
 use Rattle.rules.specs.declared.answers.Reason.the-variants.{TooManyForms}
+use Rattle.rules.specs.declared.records.ConstructorRecord.{ConstructorRecord}
 use Rattle.rules.specs.declared.records.Instruction.{Instruction}
 use Rattle.rules.specs.declared.records.Instruction.the-variants.{Load, Branch}
-use Rattle.rules.specs.Base.{refusal, found, refused, if_then_else_, byteAt}
+use Rattle.rules.specs.Base.{refusal, found, refused, if_then_else_}
 use Rattle.rules.specs.Container.{payload}
 use Rattle.rules.specs.Program.{Constructor, Program, arity, constructor}
 use Rattle.rules.specs.Records.{constructorAt, constructorOffset, programIn, functionIn}
@@ -22,7 +23,6 @@ use Rattle.rules.specs.Walk.{Arrow, arriving, first}
 use Rattle.rules.specs.Shapes.{Shape, shapeFrom, shapeRule}
 use Rattle.rules.specs.Answers.{refusalOf}
 use Rattle.rules.proofs.ListLaws.{some-inj, false-true}
-use Rattle.tables.specs.Tables.{constructorRow}
 use Rattle.sizing.specs.declared.splits.Split.{Split}
 use Rattle.sizing.specs.declared.paths.Saved.{Saved}
 use Rattle.sizing.specs.declared.paths.Branched.{Branched}
@@ -35,7 +35,6 @@ use Rattle.sizing.specs.States.{stackIn, splitsIn, SameSplits}
 use Rattle.sizing.specs.Right.{shapeIn}
 use Rattle.sizing.specs.Steps.{given, arrowsOf, BranchAsks, BranchSays, Branching}
 use Rattle.sizing.specs.Left.{leftFrom}
-use Rattle.sizing.specs.Routines.{NameTables}
 use Rattle.sizing.specs.Walking.{LineAsks, LineSays}
 use Rattle.sizing.specs.Moves.{StayIs, MoveAsks, LineMoveAsks, StepAsks, standing, leaving, moveLeft, Lands, StepSays}
 use Rattle.sizing.proofs.WalkLaws.{outcome-skipped, outcome-refused, outcome-goes}
@@ -84,9 +83,9 @@ module _ {file : List ℕ} {g i : ℕ} {st : Saved} {m : Moved} where
 
 ---- Nothing arrives
 
-pub said-skipped : {file : List ℕ} {ts : NameTables} {g : ℕ} {r : Routine} {i : ℕ} {st : Saved} → StepAsks file ts g r i st → {m : Moved}
+pub said-skipped : {file heads : List ℕ} {g : ℕ} {r : Routine} {i : ℕ} {st : Saved} → StepAsks file heads g r i st → {m : Moved}
     → st .visited ≡ false → StayIs (i + 1) m → StepSays file g i st m
-said-skipped {file} {ts} {g} {r} {i} {st} a {m} v s =
+said-skipped {file} {heads} {g} {r} {i} {st} a {m} v s =
     let w = a .function .walking in let t = a .function .there in
     let c = code-at w g t i (a .some-i) (omega (arith, a .last, a .routine .last, code-length w g t)) in
     said-stay s (omega arith)
@@ -95,7 +94,7 @@ said-skipped {file} {ts} {g} {r} {i} {st} a {m} v s =
 
 ---- A state arrives
 
-module _ {file : List ℕ} {ts : NameTables} {g i : ℕ} {st : Saved} {ins : Instruction} (a : MoveAsks file ts g i st ins) where
+module _ {file heads : List ℕ} {g i : ℕ} {st : Saved} {ins : Instruction} (a : MoveAsks file heads g i st ins) where
   arrives : (arrows : List (Arrow Shape)) → first (arriving i arrows) ≡ standing (functionIn file g) st
       → first (arriving i arrows) ≡ some (shapeIn (functionIn file g) st)
   arrives arrows q = q ∙ rw (a .visited)
@@ -121,7 +120,7 @@ module _ {file : List ℕ} {ts : NameTables} {g i : ℕ} {st : Saved} {ins : Ins
 
 ---- A load
 
-module _ {file : List ℕ} {ts : NameTables} {g i : ℕ} {st : Saved} {v : ℕ} (a : MoveAsks file ts g i st (Load v)) where
+module _ {file heads : List ℕ} {g i : ℕ} {st : Saved} {v : ℕ} (a : MoveAsks file heads g i st (Load v)) where
   pub move-load-asks : (1 ≤ v) × (v ≤ st .height) × (st .height < 16) × (i + 1 ≤ 256)
   move-load-asks =
       let w = a .function .walking in let t = a .function .there in
@@ -154,8 +153,8 @@ module _ {file : List ℕ} {ts : NameTables} {g i : ℕ} {st : Saved} {v : ℕ} 
 
 ---- A first build or call
 
-module _ {file : List ℕ} {ts : NameTables} {g : ℕ} {r : Routine} {i : ℕ} {st : Saved} (a : LineMoveAsks file ts g r i st) where
-  pub line-move-asks : LineAsks file ts g r i st
+module _ {file heads : List ℕ} {g : ℕ} {r : Routine} {i : ℕ} {st : Saved} (a : LineMoveAsks file heads g r i st) where
+  pub line-move-asks : LineAsks file heads g r i st
   line-move-asks = record {
     walking = a .move .function .walking;
     there = a .move .function .there;
@@ -198,28 +197,31 @@ same-arrows true false i b near far x y e f = rw (e, add-one i)
 same-arrows false true i b near far x y e f = rw f
 same-arrows false false i b near far x y e f = refl
 
-module _ {file : List ℕ} {ts : NameTables} {g i : ℕ} {st : Saved} {c b : ℕ} (a : MoveAsks file ts g i st (Branch c b)) where
+module _ {file heads : List ℕ} {g i : ℕ} {st : Saved} {c b : ℕ} (a : MoveAsks file heads g i st (Branch c b)) where
   reached : Branches (programIn file) g (functionIn file g) i (st .height) c b
   reached = at-branch (a .function .walking) (a .function .there) (a .fit .at) c b (a .is) .1
 
-  pub move-constructor : c < byteAt (payload file) 2
-  move-constructor = constructor-named (a .function .walking) c (reached .kind) (reached .known) .0
-
-  pub move-row : {w : ℕ} → w ≡ c → getD (ts .constructors) w [] ≡ constructorRow (constructorAt (payload file) (constructorOffset c))
-  move-row e = rw e (a .function .walking .records .constructor .row c move-constructor)
+  pub move-constructor : constructorOffset c + 8 ≤ length (payload file)
+  move-constructor =
+      let w = a .function .walking in
+      w .records .there .constructor c (constructor-named w c (reached .kind) (reached .known) .0) .0
 
   pub move-short : i + 1 ≤ 256
   move-short = omega (arith, at-place (a .function .walking) (a .function .there) (reached .next) _ refl .2)
 
-  -- row: what is looked up of the constructor
-  module _ (row : List ℕ) (is : row ≡ constructorRow (constructorAt (payload file) (constructorOffset c))) where
-    parts-is : getD row 1 0 ≡ length (reached .kind .arguments)
-    parts-is = ap (λ (y : List ℕ). getD y 1 0) is ∙ sym (constructor-read (a .function .walking) c (reached .kind) (reached .known) .0)
+  -- k: what is read of the constructor
+  module _ {k : ConstructorRecord} (is : k ≡ constructorAt (payload file) (constructorOffset c)) where
+    parts-is : k .declaration .arity ≡ length (reached .kind .arguments)
+    parts-is =
+        ap (λ (y : ConstructorRecord). y .declaration .arity) is
+        ∙ sym (constructor-read (a .function .walking) c (reached .kind) (reached .known) .0)
 
-    weight-is : getD row 6 0 ≡ reached .kind .weight
-    weight-is = ap (λ (y : List ℕ). getD y 6 0) is ∙ sym (constructor-read (a .function .walking) c (reached .kind) (reached .known) .2)
+    weight-is : k .weight ≡ reached .kind .weight
+    weight-is =
+        ap (λ (y : ConstructorRecord). y .weight) is
+        ∙ sym (constructor-read (a .function .walking) c (reached .kind) (reached .known) .2)
 
-    pub move-branch-asks : BranchAsks st c (getD row 1 0)
+    pub move-branch-asks : BranchAsks st c (k .declaration .arity)
     move-branch-asks =
         let r = a .fit .right in let y = reached in let p = parts-is in
         let z = at-low (a .function .walking) (a .function .there) (y .next) in
@@ -240,15 +242,15 @@ module _ {file : List ℕ} {ts : NameTables} {g i : ℕ} {st : Saved} {c b : ℕ
               let l = rw (getD-take (st .taken) (st .list) j noSplit h)
               at (numbered-fits (splitsIn st) (arity (functionIn file g)) (st .count) j (omega arith) (r .path .numbered)) in
               let same : s .declared-as ≡ y .kind = some-inj (sym (s .known) ∙ ap (constructor (programIn file)) e ∙ y .known) in
-              let q : getD (st .list) j noSplit .parts ≡ getD row 1 0 = sym (s .arity)
+              let q : getD (st .list) j noSplit .parts ≡ k .declaration .arity = sym (s .arity)
               ∙ ap (λ (x : Constructor). length (x .arguments)) same ∙ sym p in
               let m = r .path .few in
               (q, omega arith);
         }
 
     -- r: what leaves it
-    module _ {r : Branched} (says : Branching st c (getD row 1 0) (getD row 6 0) r) where
-      said : BranchSays (programIn file) g (functionIn file g) i b c (getD row 1 0) st r
+    module _ {r : Branched} (says : Branching st c (k .declaration .arity) (k .weight) r) where
+      said : BranchSays (programIn file) g (functionIn file g) i b c (k .declaration .arity) st r
       said =
           says (programIn file) g (functionIn file g) i b (reached .kind) (a .fit .right) (a .visited) (reached .known) parts-is weight-is
 

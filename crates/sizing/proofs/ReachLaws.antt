@@ -14,14 +14,14 @@ use Rattle.rules.specs.Program.{Constructor, Function, arity, constructor, func
 use Rattle.rules.specs.Records.{instructionAt, codeOffset, headOffset, instructionOf, programIn, functionIn, instructionOffset}
 use Rattle.rules.specs.Stacks.{slot}
 use Rattle.sizing.specs.Chart.{ReachedAt}
-use Rattle.sizing.specs.Routines.{NameTables, OperandThere}
+use Rattle.sizing.specs.Routines.{OperandThere}
 use Rattle.sizing.specs.Walking.{Walking}
 use Rattle.sizing.proofs.ChartLaws as chart
 use Rattle.sizing.proofs.ChartLaws.{Branches}
 use Rattle.sizing.proofs.FileLaws.{constructor-named, function-named, here, few-parameters, code-length, code-at}
 use Rattle.sizing.proofs.FileLaws.{flow-right, types-right}
 
-module _ {file : List ℕ} {ts : NameTables} (w : Walking file ts) {g : ℕ} (t : g < byteAt (payload file) 3) where
+module _ {file heads : List ℕ} (w : Walking file heads) {g : ℕ} (t : g < byteAt (payload file) 3) where
   pub at-start : ReachedAt (programIn file) g (functionIn file g) 1 (arity (functionIn file g)) false
   at-start =
       chart.at-start (programIn file) g (functionIn file g) (flow-right w g t) (types-right w g t) (few-parameters w g t)

@@ -28,7 +28,7 @@ use Rattle.sizing.specs.Splits.{variableE, through}
 use Rattle.sizing.specs.Right.{shapeIn, AllUnder}
 use Rattle.sizing.specs.Steps.{given}
 use Rattle.sizing.specs.Left.{leftFrom}
-use Rattle.sizing.specs.Routines.{NameTables, RoutineIs}
+use Rattle.sizing.specs.Routines.{RoutineIs}
 use Rattle.sizing.specs.Moves.{StartIs, Fit, FunctionAsks, StepAsks, standing, leaving, moveLeft, Lands, StepSays}
 use Rattle.sizing.proofs.WalkLaws.{first-put, outcome-end, walk-judged}
 use Rattle.sizing.proofs.ReachLaws.{at-start}
@@ -174,7 +174,7 @@ start-shape f x h s =
       bound = f .bound;
     })
 
-module _ {file : List ℕ} {ts : NameTables} {g : ℕ} (a : FunctionAsks file ts g) {r : Routine}
+module _ {file heads : List ℕ} {g : ℕ} (a : FunctionAsks file heads g) {r : Routine}
     (is : RoutineIs (payload file) (headOffset (payload file) g) r) where
   pub routine-few : r .arity ≤ 4
   routine-few = omega (arith, is .arity, here (a .walking) g (a .there) .arity)
@@ -192,8 +192,7 @@ module _ {file : List ℕ} {ts : NameTables} {g : ℕ} (a : FunctionAsks file ts
         right = record {
           path = rw (q .taken, q .count)
               (path-start (programIn file) (functionIn file g) (le-trans few (omega arith))
-              (rows-fit (arity (functionIn file g)) (r .bound) (rw (arity-is w g t) (own-bound w g t (r .bound) (is .bound)))
-              (functionIn file g .bound) (rw (arity-is w g t) (bound-is w g t (r .bound) (is .bound))))
+              (rows-fit (own-bound w g t (r .bound) (is .bound)) (bound-is w g t (r .bound) (is .bound)))
               (parameter-counts w g t));
           under = rw (q .count, q .height, q .stack) (numbers-under (arity (functionIn file g)) few);
           high = rw (q .height) (le-trans few (omega arith));
@@ -221,7 +220,7 @@ pub record Slots (file : List ℕ) (g : ℕ) (saved : List Saved) (i : ℕ) : Ty
   pub some-i : 1 ≤ i
   pub standing-in : SlotsStand file g saved arrows i
 
-module _ {file : List ℕ} {ts : NameTables} {g : ℕ} (a : FunctionAsks file ts g) {r : Routine}
+module _ {file heads : List ℕ} {g : ℕ} (a : FunctionAsks file heads g) {r : Routine}
     (is : RoutineIs (payload file) (headOffset (payload file) g) r) where
   pub slots-start : (u x : Saved) → u .visited ≡ false → StartIs (r .arity) x → Slots file g (set (replicate 258 u) 1 x) 1
   unfolding sizesOf
@@ -248,7 +247,7 @@ module _ {file : List ℕ} {ts : NameTables} {g : ℕ} (a : FunctionAsks file ts
       pub slots-low : i ≤ 256
       slots-low = omega (arith, is .last, here (a .walking) g (a .there) .short-code)
 
-      pub slots-asks : StepAsks file ts g r i (getD saved i noSaved)
+      pub slots-asks : StepAsks file heads g r i (getD saved i noSaved)
       slots-asks = record {
         function = a;
         routine = is;

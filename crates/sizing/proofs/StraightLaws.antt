@@ -11,10 +11,9 @@ use lib.ListN.{length, getD, set, take, drop, replicate, length-drop}
 use lib.Seq.{length-take-le, getD-take, getD-drop, ext-getD}
 use borrow.Author.Tests.{eq-eqb}
 use Rattle.rules.specs.declared.records.Alternative.{Alternative}
-use Rattle.rules.specs.declared.records.AlternativeRecord.{AlternativeRecord}
 use Rattle.rules.specs.declared.records.Instruction.{Instruction}
 use Rattle.rules.specs.declared.records.Instruction.the-variants.{Load, Build, Call, Branch, Return, Stop}
-use Rattle.rules.specs.Base.{refusal, found, refused}
+use Rattle.rules.specs.Base.{refusal, found, refused, numbered}
 use Rattle.rules.specs.Container.{payload}
 use Rattle.rules.specs.Program.{Function, arity}
 use Rattle.rules.specs.Records.{alternativeOf, programIn, functionIn}
@@ -26,23 +25,24 @@ use Rattle.rules.specs.Forms.{formOf, flatMap, substituted, intoBound, covers}
 use Rattle.rules.specs.Shapes.{Shape, withStack, enter, shapeFrom, shapeRule}
 use Rattle.rules.proofs.ListLaws.{false-true}
 use Rattle.sizing.specs.declared.forms.Form.{Form}
-use Rattle.sizing.specs.declared.forms.Bound.{Bound}
+use Rattle.sizing.specs.declared.bounds.Bound.{Bound}
 use Rattle.sizing.specs.declared.paths.Saved.{Saved}
 use Rattle.sizing.specs.declared.routines.Routine.{Routine}
 use Rattle.sizing.specs.declared.routines.Maker.{Maker}
 use Rattle.sizing.specs.Splits.{variableE}
-use Rattle.sizing.specs.Forms.{formIn, FormMade, noForm, noRow, argumentsIn, boundIn, BoundRight, ArgumentForms}
+use Rattle.sizing.specs.Forms.{formIn, FormMade, noForm, argumentsIn, ArgumentForms}
+use Rattle.sizing.specs.Bounds.{rowIn, boundIn, BoundRight}
 use Rattle.sizing.specs.Right.{shapeIn, LineRight}
-use Rattle.sizing.specs.Steps.{FormsAsks, FormsAre, OwnAsks, OwnIs}
+use Rattle.sizing.specs.Steps.{EntryAsks, FormsAre, OwnAsks, OwnIs}
 use Rattle.sizing.specs.Chart.{ReachedAt}
 use Rattle.sizing.specs.Left.{leftFrom}
-use Rattle.sizing.specs.Routines.{NameTables, MakerIs}
+use Rattle.sizing.specs.Routines.{MakerIs}
 use Rattle.sizing.specs.Walking.{Makes, LineAsks}
 use Rattle.sizing.proofs.WalkLaws.{alike-past, alike-here, alike-put, outcome-alike, outcome-refused, outcome-goes, first-put}
 use Rattle.sizing.proofs.ReachLaws.{at-low, at-load, at-build, at-call, at-branch, at-some}
 use Rattle.sizing.proofs.FileLaws.{constructor-read, light, function-named, arity-is, few-parameters, bound-right, bound-is}
 use Rattle.sizing.proofs.FileLaws.{own-bound}
-use Rattle.sizing.proofs.ConvertLaws.{stack-asks, own-asks, converted}
+use Rattle.sizing.proofs.ConvertLaws.{entry-asks, own-asks, converted}
 use Rattle.sizing.proofs.LineLaws.{line-rule, line-entry, load-line, entered, enteredShape, enter-large, enter-goes, enter-line}
 use Rattle.sizing.proofs.LineLaws.{enter-refused, build-form, call-form}
 
@@ -79,27 +79,20 @@ ones (suc (suc (suc zero))) h = refl
 ones (suc (suc (suc (suc zero)))) h = refl
 ones (suc (suc (suc (suc (suc n))))) h = absurd (omega arith)
 
-one-row : (n w : ℕ) (b : Bound) (fs : List forms.Form) → n ≤ 4 → b .count ≡ 1 → length (b .rows) ≡ 4
-    → getD (b .rows) 0 noRow ≡ record { coefficients = 1 ∷ 1 ∷ 1 ∷ 1 ∷ []; constant = w }
-    → intoBound (boundIn n b) fs ≡ substituted (replicate n 1) w fs
-unfolding intoBound flatMap alternativeOf
-one-row n w b fs h c l r =
-    ap (λ (rows : List AlternativeRecord). intoBound (map (alternativeOf n) rows) fs) (first-row (b .rows) (b .count) c l r)
-    ∙ append-nil (substituted (take n (1 ∷ 1 ∷ 1 ∷ 1 ∷ [])) w fs) ∙ ap (λ (ms : List ℕ). substituted ms w fs) (ones n h)
-  where
-    first-row : (rows : List AlternativeRecord) (k : ℕ) → k ≡ 1 → length rows ≡ 4
-        → getD rows 0 noRow ≡ record { coefficients = 1 ∷ 1 ∷ 1 ∷ 1 ∷ []; constant = w }
-        → take k rows ≡ record { coefficients = 1 ∷ 1 ∷ 1 ∷ 1 ∷ []; constant = w } ∷ []
-    first-row [] k e l r = absurd (omega arith)
-    first-row (x ∷ rows) k e l r = rw e (ap (λ (y : AlternativeRecord). y ∷ []) r)
+one-row : (bytes : List ℕ) (n w : ℕ) (b : Bound) (fs : List forms.Form) → n ≤ 4 → b .built ≡ true → b .count ≡ 1 → b .weight ≡ w
+    → intoBound (boundIn bytes n b) fs ≡ substituted (replicate n 1) w fs
+unfolding intoBound flatMap alternativeOf numbered rowIn
+one-row bytes n w b fs h t c e =
+    rw (t, c, e)
+    (append-nil (substituted (take n (1 ∷ 1 ∷ 1 ∷ 1 ∷ [])) w fs) ∙ ap (λ (ms : List ℕ). substituted ms w fs) (ones n h))
 
-one-right : (b : Bound) (w : ℕ) → w ≤ 255 → b .count ≡ 1 → length (b .rows) ≡ 4
-    → getD (b .rows) 0 noRow ≡ record { coefficients = 1 ∷ 1 ∷ 1 ∷ 1 ∷ []; constant = w } → BoundRight b
-one-right b w h c l e = record {
+one-right : (bytes : List ℕ) (b : Bound) (w : ℕ) → w ≤ 255 → b .built ≡ true → b .count ≡ 1 → b .weight ≡ w → BoundRight bytes b
+unfolding rowIn
+one-right bytes b w h t c e = record {
   some = omega arith;
   few = omega arith;
-  four = l;
-  each = λ i k. let z : i ≡ 0 = omega arith in rw (z, e) (record { four = refl; small = small; constant = le-trans h (omega arith) });
+  there = λ k l z. absurd (false-true (sym z ∙ t));
+  each = λ k l. rw (t, e) (record { four = refl; small = small; constant = le-trans h (omega arith) });
 }
   where
     small : (i : ℕ) → getD {A = ℕ} (1 ∷ 1 ∷ 1 ∷ 1 ∷ []) i 0 ≤ 15
@@ -128,39 +121,40 @@ abbrev pub Line : List ℕ → ℕ → ℕ → Form → List Form → ℕ → Li
 Line file g start own stack₀ height₀ stack height j =
     (from : Shape) → LineRight (programIn file) (functionIn file g) from own stack₀ height₀ → LineGoes file g start from own stack height j
 
-module _ {file : List ℕ} {ts : NameTables} {g : ℕ} {r : Routine} {start : ℕ} {st : Saved} (a : LineAsks file ts g r start st) where
+module _ {file heads : List ℕ} {g : ℕ} {r : Routine} {start : ℕ} {st : Saved} (a : LineAsks file heads g r start st) where
   ---- The start
 
-  pub line-stack-asks : FormsAsks st
-  line-stack-asks = stack-asks (programIn file) (functionIn file g) st (a .right) (light (a .walking))
+  pub line-entry-asks : (i : ℕ) → i < st .height → EntryAsks st i
+  line-entry-asks = entry-asks (programIn file) (functionIn file g) st (a .right) (light (a .walking))
 
-  pub line-own-asks : OwnAsks (r .bound) (record { taken = st .taken; list = st .list })
+  pub line-own-asks : OwnAsks (payload file) (r .bound) (record { taken = st .taken; list = st .list })
   line-own-asks = own-asks (programIn file) (functionIn file g) st (a .right) (light (a .walking))
-      (le-trans (few-parameters (a .walking) g (a .there)) (omega arith)) (r .bound)
-      (rw (arity-is (a .walking) g (a .there)) (own-bound (a .walking) g (a .there) (r .bound) (a .routine .bound)))
-      (rw (arity-is (a .walking) g (a .there)) (bound-is (a .walking) g (a .there) (r .bound) (a .routine .bound)))
+      (le-trans (few-parameters (a .walking) g (a .there)) (omega arith)) (payload file) (r .bound)
+      (own-bound (a .walking) g (a .there) (r .bound) (a .routine .bound))
+      (bound-is (a .walking) g (a .there) (r .bound) (a .routine .bound))
 
-  pub line-right : (own : Form) (stack : List Form) → OwnIs (r .bound) (record { taken = st .taken; list = st .list }) own
-      → FormsAre st stack
-      → LineRight (programIn file) (functionIn file g) (shapeIn (functionIn file g) st) own stack (st .height)
-  line-right own stack o h = converted (programIn file) (functionIn file g) st (a .right) (light (a .walking))
-      (le-trans (few-parameters (a .walking) g (a .there)) (omega arith)) (r .bound)
-      (rw (arity-is (a .walking) g (a .there)) (own-bound (a .walking) g (a .there) (r .bound) (a .routine .bound)))
-      (rw (arity-is (a .walking) g (a .there)) (bound-is (a .walking) g (a .there) (r .bound) (a .routine .bound)))
-      stack own h o
+  -- where the code has the forms of all entries
+  module _ {own : Form} {stack : List Form} {height : ℕ} (all : height ≡ st .height) where
+    pub line-right : OwnIs (payload file) (r .bound) (record { taken = st .taken; list = st .list }) own → FormsAre st height stack
+        → LineRight (programIn file) (functionIn file g) (shapeIn (functionIn file g) st) own stack height
+    line-right o h =
+        rw all (converted (programIn file) (functionIn file g) st (a .right) (light (a .walking))
+        (le-trans (few-parameters (a .walking) g (a .there)) (omega arith)) (payload file) (r .bound)
+        (own-bound (a .walking) g (a .there) (r .bound) (a .routine .bound))
+        (bound-is (a .walking) g (a .there) (r .bound) (a .routine .bound)) stack own (rw all at h) o)
 
-  pub line-start : (own : Form) (stack : List Form) → Line file g start own stack (st .height) stack (st .height) start
-  line-start own stack from l = record {
-    shape = from;
-    line = l;
-    past = false;
-    at = a .at;
-    makes = λ _. a .makes;
-    behind = le-refl start;
-    left =
-        λ arrows e. outcome-alike (shapeRule (programIn file) g (functionIn file g)) (functionIn file g .code) start arrows
-        ((start, from) ∷ arrows) (alike-here start from arrows e);
-  }
+    pub line-start : Line file g start own stack height stack height start
+    line-start from l = record {
+      shape = from;
+      line = l;
+      past = false;
+      at = rw all (a .at);
+      makes = λ _. a .makes;
+      behind = le-refl start;
+      left =
+          λ arrows e. outcome-alike (shapeRule (programIn file) g (functionIn file g)) (functionIn file g .code) start arrows
+          ((start, from) ∷ arrows) (alike-here start from arrows e);
+    }
 
   ---- At instruction j
 
@@ -266,12 +260,12 @@ module _ {file : List ℕ} {ts : NameTables} {g : ℕ} {r : Routine} {start : �
     pub record Making (ins : Instruction) (m : Maker) : Type 0 where
       pub few : m .arity ≤ 4
       pub high : m .arity ≤ height
-      pub bound : BoundRight (m .bound)
+      pub bound : BoundRight (payload file) (m .bound)
       pub symbol : Symbol
       pub rule : shapeFrom (programIn file) g (functionIn file g) j ins (l .shape)
           ≡ enter (programIn file) g (functionIn file g) j (l .shape) (m .arity) symbol
       pub form : formOf (programIn file) (entered g (l .line) (m .arity) symbol)
-          ≡ intoBound (boundIn (m .arity) (m .bound)) (map formIn (take (m .arity) (drop (height - m .arity) stack)))
+          ≡ intoBound (boundIn (payload file) (m .arity) (m .bound)) (map formIn (take (m .arity) (drop (height - m .arity) stack)))
       pub next : ReachedAt (programIn file) g (functionIn file g) (suc j) (height - m .arity + 1) true
 
     pub line-making : (ins : Instruction) → slot j (functionIn file g .code) ≡ some ins → (m : Maker) → MakerIs (payload file) ins m
@@ -282,25 +276,25 @@ module _ {file : List ℕ} {ts : NameTables} {g : ℕ} {r : Routine} {start : �
         let y = at-build (a .walking) (a .there) (l .at) c e in
         let q = constructor-read (a .walking) c (y .0) (y .1) in
         let n-is : m .arity ≡ length (y .0 .arguments) = k .arity ∙ sym (q .0) in
-        let row = rw (← q .2) at (k .row) in
+        let weight = k .weight ∙ sym (q .2) in
         rw n-is (record {
           few = q .1;
           high = y .2;
-          bound = one-right (m .bound) (y .0 .weight) (light (a .walking) c (y .0) (y .1)) (k .one) (k .long) row;
+          bound = one-right (payload file) (m .bound) (y .0 .weight) (light (a .walking) c (y .0) (y .1)) (k .built) (k .one) weight;
           symbol = built c;
           rule = rw (y .1);
           form =
               build-form g (l .line) c (y .0) (y .1) (y .2)
-              ∙ sym (one-row (length (y .0 .arguments)) (y .0 .weight) (m .bound) _ (q .1) (k .one) (k .long) row);
+              ∙ sym (one-row (payload file) (length (y .0 .arguments)) (y .0 .weight) (m .bound) _ (q .1) (k .built) (k .one) weight);
           next = y .3;
         })
     line-making (Call c) e m k z =
         let y = at-call (a .walking) (a .there) (l .at) c e in
         let q = function-named (a .walking) c (y .0) (y .1) in
         let n-is : m .arity ≡ arity (y .0) = k .arity ∙ sym (ap (λ (h : Function). arity h) (q .1) ∙ arity-is (a .walking) c (q .0)) in
-        let b-is : y .0 .bound ≡ boundIn (arity (y .0)) (m .bound) =
+        let b-is : y .0 .bound ≡ boundIn (payload file) (arity (y .0)) (m .bound) =
         ap (λ (h : Function). h .bound) (q .1) ∙ sym (bound-is (a .walking) c (q .0) (m .bound) (k .bound))
-        ∙ ap (λ (i : ℕ). boundIn i (m .bound)) (sym (k .arity) ∙ n-is) in
+        ∙ ap (λ (h : Function). boundIn (payload file) (arity h) (m .bound)) (sym (q .1)) in
         rw n-is (record {
           few = rw (q .1) (few-parameters (a .walking) c (q .0));
           high = y .2;
@@ -330,8 +324,10 @@ module _ {file : List ℕ} {ts : NameTables} {g : ℕ} {r : Routine} {start : �
 
       -- x: what the code makes of them
       module _ (x : Form)
-          (mk : FormMade x (intoBound (boundIn (m .arity) (m .bound)) (argumentsIn (topFour stack (height - m .arity)) (m .arity)))) where
-        made : FormMade x (intoBound (boundIn (m .arity) (m .bound)) (map formIn (take (m .arity) (drop (height - m .arity) stack))))
+          (mk : FormMade x (intoBound (boundIn (payload file) (m .arity) (m .bound))
+          (argumentsIn (topFour stack (height - m .arity)) (m .arity)))) where
+        made : FormMade x (intoBound (boundIn (payload file) (m .arity) (m .bound))
+            (map formIn (take (m .arity) (drop (height - m .arity) stack))))
         made =
             let z = l .line .long in let y = l .line .high in let u = k .high in
             rw (← top-taken stack (height - m .arity) (m .arity) (k .few) (omega arith)) mk

@@ -5,10 +5,8 @@ use Prim.Native.Nat.{ℕ, zero, suc, _≤_, _<_}
 use lib.ListN.{take, length, getD}
 use Rattle.rules.specs.declared.records.Alternative.{Alternative}
 use Rattle.rules.specs.declared.records.AlternativeRecord.{AlternativeRecord}
-use Rattle.rules.specs.Records.{alternativeOf}
 use Rattle.rules.specs.Forms as forms
 use Rattle.rules.specs.Forms.{added, flatMap}
-use Rattle.sizing.specs.declared.forms.Bound.{Bound}
 use Rattle.sizing.specs.declared.forms.Form.{Form}
 use Rattle.sizing.specs.Put.{AllWide, AllBounded}
 
@@ -39,27 +37,14 @@ choices (suc m) form rest = flatMap (λ choice. map (added (suc m) choice) rest)
 abbrev pub noForm : Form
 noForm = record { alternatives = []; count = 0 }
 
-abbrev pub noRow : AlternativeRecord
-noRow = record { coefficients = []; constant = 0 }
-
 -- the forms of the first n arguments
 abbrev pub argumentsIn : List Form → ℕ → List forms.Form
 argumentsIn arguments n = map formIn (take n arguments)
-
--- a bound of a function with n parameters
-abbrev pub boundIn : ℕ → Bound → List Alternative
-boundIn n b = map (alternativeOf n) (take (b .count) (b .rows))
 
 pub record RowRight (row : AlternativeRecord) : Type 0 where
   pub four : length (row .coefficients) ≡ 4
   pub small : (i : ℕ) → getD (row .coefficients) i 0 ≤ 15
   pub constant : row .constant ≤ 65535
-
-pub record BoundRight (b : Bound) : Type 0 where
-  pub some : 0 < b .count
-  pub few : b .count ≤ 4
-  pub four : length (b .rows) ≡ 4
-  pub each : (i : ℕ) → i < b .count → RowRight (getD (b .rows) i noRow)
 
 pub record ArgumentForms (arguments : List Form) (n : ℕ) : Type 0 where
   pub few : n ≤ 4

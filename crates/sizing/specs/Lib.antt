@@ -1,6 +1,7 @@
 pub mod Put
 pub mod Splits
 pub mod Forms
+pub mod Bounds
 pub mod States
 pub mod Right
 pub mod Steps

@@ -23,7 +23,7 @@ use Rattle.sizing.specs.Right.{shapeIn, SavedRight}
 use Rattle.sizing.specs.Steps.{given}
 use Rattle.sizing.specs.Chart.{ReachedAt}
 use Rattle.sizing.specs.Left.{leftFrom}
-use Rattle.sizing.specs.Routines.{NameTables, RoutineIs}
+use Rattle.sizing.specs.Routines.{RoutineIs}
 use Rattle.sizing.specs.Walking.{Walking, Makes}
 
 -- the parameters as variables
@@ -48,25 +48,25 @@ pub record Fit (file : List ℕ) (g i : ℕ) (st : Saved) : Type 0 where
   pub right : SavedRight (programIn file) (functionIn file g) st
   pub at : ReachedAt (programIn file) g (functionIn file g) i (st .height) false
 
-pub record FunctionAsks (file : List ℕ) (t : NameTables) (g : ℕ) : Type 0 where
-  pub walking : Walking file t
+pub record FunctionAsks (file heads : List ℕ) (g : ℕ) : Type 0 where
+  pub walking : Walking file heads
   pub there : g < byteAt (payload file) 3
 
 -- this instruction, where a state arrives
-pub record MoveAsks (file : List ℕ) (t : NameTables) (g i : ℕ) (st : Saved) (ins : Instruction) : Type 0 where
-  pub function : FunctionAsks file t g
+pub record MoveAsks (file heads : List ℕ) (g i : ℕ) (st : Saved) (ins : Instruction) : Type 0 where
+  pub function : FunctionAsks file heads g
   pub visited : st .visited ≡ true
   pub fit : Fit file g i st
   pub is : slot i (functionIn file g .code) ≡ some ins
 
-pub record LineMoveAsks (file : List ℕ) (t : NameTables) (g : ℕ) (r : Routine) (i : ℕ) (st : Saved) : Type 0 where
+pub record LineMoveAsks (file heads : List ℕ) (g : ℕ) (r : Routine) (i : ℕ) (st : Saved) : Type 0 where
   pub ins : Instruction
-  pub move : MoveAsks file t g i st ins
+  pub move : MoveAsks file heads g i st ins
   pub makes : Makes ins
   pub routine : RoutineIs (payload file) (headOffset (payload file) g) r
 
-pub record StepAsks (file : List ℕ) (t : NameTables) (g : ℕ) (r : Routine) (i : ℕ) (st : Saved) : Type 0 where
-  pub function : FunctionAsks file t g
+pub record StepAsks (file heads : List ℕ) (g : ℕ) (r : Routine) (i : ℕ) (st : Saved) : Type 0 where
+  pub function : FunctionAsks file heads g
   pub routine : RoutineIs (payload file) (headOffset (payload file) g) r
   pub some-i : 1 ≤ i
   pub last : i ≤ r .last

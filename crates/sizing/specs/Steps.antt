@@ -1,12 +1,12 @@
 -- What the code's steps say, by the definitions.
 use mathlib.Core.Path.{_≡_}
-use mathlib.Core.List.{List, [], _∷_, map}
+use mathlib.Core.List.{List, [], _∷_}
 use mathlib.Core.Bool.{Bool, true, false}
 use mathlib.Core.Option.{some}
 use Prim.Native.Nat.{ℕ, suc, _+_, _-_, _≤_, _<_}
 use lib.ListN.{length, take, getD}
 use Rattle.rules.specs.declared.records.Instruction.the-variants.{Branch}
-use Rattle.rules.specs.Base.{found, refused, refusal}
+use Rattle.rules.specs.Base.{found, refused, refusal, numbered}
 use Rattle.rules.specs.Program.{constructor, Constructor, Function, Program}
 use Rattle.rules.specs.Walk.{Arrow}
 use Rattle.rules.specs.Forms.{variableOnly}
@@ -16,10 +16,11 @@ use Rattle.sizing.specs.declared.paths.Branched.{Branched}
 use Rattle.rules.specs.declared.records.Alternative.{Alternative}
 use Rattle.rules.specs.declared.records.AlternativeRecord.{AlternativeRecord}
 use Rattle.sizing.specs.declared.forms.Form.{Form}
-use Rattle.sizing.specs.declared.forms.Bound.{Bound}
+use Rattle.sizing.specs.declared.bounds.Bound.{Bound}
 use Rattle.sizing.specs.declared.splits.Splits.{Splits}
 use Rattle.sizing.specs.Put.{widened}
-use Rattle.sizing.specs.Forms.{formIn, FormRight, Single, noForm, noRow, BoundRight}
+use Rattle.sizing.specs.Forms.{formIn, FormRight, Single, noForm}
+use Rattle.sizing.specs.Bounds.{rowIn, BoundRight}
 use Rattle.sizing.specs.Splits.{noSplit, Whole, Carrying, carried}
 use Rattle.sizing.specs.States.{splitsIn}
 use Rattle.sizing.specs.Right.{shapeIn, SavedRight}
@@ -60,26 +61,34 @@ Branching st c parts weight r =
     → parts ≡ length (k .arguments) → weight ≡ k .weight
     → BranchSays s n f i b c parts st r
 
--- each variable of the stack can be taken through the splits
-pub record FormsAsks (st : Saved) : Type 0 where
-  pub high : st .height ≤ 16
-  pub small : (i : ℕ) → i < st .height → getD (st .stack) i 0 < 16
-  pub carrying : (i : ℕ) → i < st .height → Carrying (variableOnly (getD (st .stack) i 0)) (st .taken) (st .list)
+-- the variable at place i of the stack can be taken through the splits
+pub record EntryAsks (st : Saved) (i : ℕ) : Type 0 where
+  pub place : i < 16
+  pub small : getD (st .stack) i 0 < 16
+  pub carrying : Carrying (variableOnly (getD (st .stack) i 0)) (st .taken) (st .list)
 
--- each variable's form after the splits
-pub record FormsAre (st : Saved) (r : List Form) : Type 0 where
+-- its form after the splits
+abbrev pub EntryIs : Saved → ℕ → Form → Type 0
+EntryIs st i x = Single x (carried (splitsIn st) (variableOnly (getD (st .stack) i 0)))
+
+-- the forms of the lowest n variables
+pub record FormsAre (st : Saved) (n : ℕ) (r : List Form) : Type 0 where
   pub long : length r ≡ 20
-  pub each : (i : ℕ) → i < st .height → Single (getD r i noForm) (carried (splitsIn st) (variableOnly (getD (st .stack) i 0)))
+  pub each : (i : ℕ) → i < n → EntryIs st i (getD r i noForm)
 
 -- a row of a bound at the parameters, before the splits
 abbrev pub ownRow : AlternativeRecord → Alternative
 ownRow row = widened 0 (row .coefficients) (row .constant)
 
-pub record OwnAsks (b : Bound) (s : Splits) : Type 0 where
-  pub bound : BoundRight b
-  pub carrying : (i : ℕ) → i < b .count → Carrying (ownRow (getD (b .rows) i noRow)) (s .taken) (s .list)
+-- and row k after them
+abbrev pub ownAfter : List ℕ → Bound → Splits → ℕ → Alternative
+ownAfter bytes b s k = carried (take (s .taken) (s .list)) (ownRow (rowIn bytes b k))
 
-pub record OwnIs (b : Bound) (s : Splits) (x : Form) : Type 0 where
+pub record OwnAsks (bytes : List ℕ) (b : Bound) (s : Splits) : Type 0 where
+  pub bound : BoundRight bytes b
+  pub carrying : (k : ℕ) → k < b .count → Carrying (ownRow (rowIn bytes b k)) (s .taken) (s .list)
+
+pub record OwnIs (bytes : List ℕ) (b : Bound) (s : Splits) (x : Form) : Type 0 where
   pub right : FormRight x
   pub count : x .count ≡ b .count
-  pub same : formIn x ≡ map (λ row. carried (take (s .taken) (s .list)) (ownRow row)) (take (b .count) (b .rows))
+  pub same : formIn x ≡ numbered (ownAfter bytes b s) 0 (b .count)

@@ -21,11 +21,11 @@ use Rattle.sizing.specs.declared.line.Straight.the-variants.{Ends, Refus
 use Rattle.sizing.specs.Right.{shapeIn, SavedRight}
 use Rattle.sizing.specs.Chart.{ReachedAt}
 use Rattle.sizing.specs.Left.{leftFrom}
-use Rattle.sizing.specs.Routines.{NameTables, Records, RoutineIs}
+use Rattle.sizing.specs.Routines.{Records, RoutineIs}
 
--- tables of a file that has passed 1 to 8
-pub record Walking (file : List ℕ) (t : NameTables) : Type 0 where
-  pub records : Records file t
+-- a file that has passed 1 to 8, and where the heads of its functions stand
+pub record Walking (file heads : List ℕ) : Type 0 where
+  pub records : Records file heads
   pub typechecked : Typechecked file
 
 ---- The straight line from a first build or call on
@@ -38,8 +38,8 @@ Makes (Branch c b) = ⊥
 Makes Return = ⊥
 Makes Stop = ⊥
 
-pub record LineAsks (file : List ℕ) (t : NameTables) (g : ℕ) (r : Routine) (start : ℕ) (st : Saved) : Type 0 where
-  pub walking : Walking file t
+pub record LineAsks (file heads : List ℕ) (g : ℕ) (r : Routine) (start : ℕ) (st : Saved) : Type 0 where
+  pub walking : Walking file heads
   pub there : g < byteAt (payload file) 3
   pub routine : RoutineIs (payload file) (headOffset (payload file) g) r
   pub at : ReachedAt (programIn file) g (functionIn file g) start (st .height) false

@@ -3,22 +3,20 @@ ghost use mathlib.Core.Path.{_≡_};
 ghost use mathlib.Core.List.{[], _∷_, _++_};
 ghost use Prim.Native.Nat.{_+_, _≤_, _<_};
 ghost use lib.ListN.{take};
+ghost use Rattle.rules.specs.Container.{payload};
+ghost use Rattle.rules.specs.Established.{Verified};
 ghost use Rattle.rules.specs.Forms.{constantOnly, variableOnly, added, substituted, intoBound};
 ghost use Rattle.sizing.specs.Put.{Bounded, AllBounded, Wide};
-ghost use Rattle.sizing.specs.Forms.{formIn, FormRight, Single, Entry, FormMade, choices, RowRight, BoundRight, ArgumentForms};
-ghost use Rattle.sizing.specs.Forms.{argumentsIn, boundIn};
+ghost use Rattle.sizing.specs.Forms.{formIn, FormRight, Single, Entry, FormMade, choices, RowRight, ArgumentForms, argumentsIn};
+ghost use Rattle.sizing.specs.Bounds.{boundIn, BoundRight};
+use crate::bounds::Bound;
+use crate::bounds::row_of;
 use rules::records::Alternative;
 use rules::records::AlternativeRecord;
 
 // A size form: its first count alternatives.
 pub struct Form {
     pub alternatives: [Alternative; 16],
-    pub count: usize,
-}
-
-// A size bound: its first count rows.
-pub struct Bound {
-    pub rows: [AlternativeRecord; 4],
     pub count: usize,
 }
 
@@ -159,18 +157,18 @@ pub fn joined(r: Form, y: Form) -> Form
 }
 
 // The forms of n arguments put into a bound; none where there are more than 16. A build has one row, and nothing is joined then.
-pub fn into_bound(bound: Bound, n: usize, arguments: [Form; 4]) -> Form
-    requires { ⌜ BoundRight bound × ArgumentForms arguments n ⌝ }
-    ensures { λ x. ⌜ FormMade x (intoBound (boundIn n bound) (argumentsIn arguments n)) ⌝ }
+pub fn into_bound(file: &[u8], bound: Bound, n: usize, arguments: [Form; 4]) -> Form
+    requires { ⌜ Verified (now file) × BoundRight (payload (now file)) bound × ArgumentForms arguments n ⌝ }
+    ensures { λ x. ⌜ FormMade x (intoBound (boundIn (payload (now (file .entry))) n bound) (argumentsIn arguments n)) ⌝ }
 {
     let k = bound.count;
     if k == 1 {
-        return substitute(bound.rows[0], n, arguments);
+        return substitute(row_of(file, bound, 0), n, arguments);
     }
     let mut x = no_form();
     let mut i: usize = 0;
     while i < k {
-        let row = bound.rows[i];
+        let row = row_of(file, bound, i);
         let y = substitute(row, n, arguments);
         let made = y.count;
         if made == 0 {

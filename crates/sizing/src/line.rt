@@ -1,12 +1,14 @@
 // A path from its first build or call on: variables become size forms, and the path is a straight line to its end.
 ghost use mathlib.Core.Path.{_≡_};
+ghost use Rattle.rules.specs.Container.{payload};
+ghost use Rattle.rules.specs.Established.{Verified};
 ghost use Rattle.sizing.specs.Put.{widened};
 ghost use Rattle.sizing.specs.Forms.{RowRight};
-ghost use Rattle.sizing.specs.Steps.{FormsAsks, FormsAre, OwnAsks, OwnIs};
-ghost use Rattle.sizing.specs.Routines.{nameTables};
+ghost use Rattle.sizing.specs.Steps.{EntryAsks, EntryIs, OwnAsks, OwnIs};
 ghost use Rattle.sizing.specs.Walking.{LineAsks, LineSays};
+use crate::bounds::Bound;
+use crate::bounds::row_of;
 use crate::cover::covered_by;
-use crate::forms::Bound;
 use crate::forms::Form;
 use crate::forms::into_bound;
 use crate::forms::no_form;
@@ -44,15 +46,15 @@ pub fn widen(row: AlternativeRecord) -> Alternative
 }
 
 // The function's own bound at its parameters' shapes.
-pub fn own_form(bound: Bound, s: Splits) -> Form
-    requires { ⌜ OwnAsks bound s ⌝ }
-    ensures { λ x. ⌜ OwnIs bound s x ⌝ }
+pub fn own_form(file: &[u8], bound: Bound, s: Splits) -> Form
+    requires { ⌜ Verified (now file) × OwnAsks (payload (now file)) bound s ⌝ }
+    ensures { λ x. ⌜ OwnIs (payload (now (file .entry))) bound s x ⌝ }
 {
     let n = bound.count;
     let mut x = no_form();
     let mut i: usize = 0;
     while i < n {
-        let row = bound.rows[i];
+        let row = row_of(file, bound, i);
         x.alternatives[i] = carry(widen(row), s);
         i += 1;
     }
@@ -60,26 +62,18 @@ pub fn own_form(bound: Bound, s: Splits) -> Form
     x
 }
 
-// The forms of the variables on the stack. There are places for four entries more than a stack can have.
-pub fn stack_forms(st: Saved) -> [Form; 20]
-    requires { ⌜ FormsAsks st ⌝ }
-    ensures { λ r. ⌜ FormsAre st r ⌝ }
+// The form of the variable at place i of the stack.
+pub fn entry_form(st: Saved, i: usize) -> Form
+    requires { ⌜ EntryAsks st i ⌝ }
+    ensures { λ x. ⌜ EntryIs st i x ⌝ }
 {
     let l = st.list;
     let s = Splits {
         taken: st.taken,
         list: l,
     };
-    let n = st.height;
-    let mut r = [no_form(); 20];
-    let mut i: usize = 0;
-    while i < n {
-        let v = st.stack[i] as usize;
-        let a = carry(unit(v), s);
-        r[i] = single(a);
-        i += 1;
-    }
-    r
+    let v = st.stack[i] as usize;
+    single(carry(unit(v), s))
 }
 
 // How the straight line ends: passed, with the number of the instruction behind it, or refused.
@@ -99,18 +93,17 @@ fn place(function: usize, instruction: usize) -> Place
 }
 
 // The straight line of function g from instruction start on, a build or call. Only what is new on the stack has to be tested,
-// where it arrives: at the next instruction.
+// where it arrives: at the next instruction. There are places for four entries more than a stack can have. The stack is filled here and
+// not by a function that returns it, since the compiler would then copy it.
 pub fn straight_line(
     file: &[u8],
-    constructors: &[[u16; 9]; 64],
-    functions: &[[u16; 9]; 32],
-    alternatives: &[[u16; 5]; 128],
+    heads: &[usize; 32],
     g: usize,
     f: Routine,
     start: usize,
     st: Saved,
 ) -> Straight
-    requires { ⌜ LineAsks (now file) (nameTables (now constructors) (now functions) (now alternatives)) g f start st ⌝ }
+    requires { ⌜ LineAsks (now file) (now heads) g f start st ⌝ }
     ensures { λ r. ⌜ LineSays (now (file .entry)) g start st r ⌝ }
 {
     let bound = f.bound;
@@ -119,14 +112,18 @@ pub fn straight_line(
         taken: st.taken,
         list: list,
     };
-    let own = own_form(bound, s);
-    let mut stack = stack_forms(st);
-    let mut height = st.height;
+    let own = own_form(file, bound, s);
+    let mut stack = [no_form(); 20];
+    let mut height: usize = 0;
+    while height < st.height {
+        stack[height] = entry_form(st, height);
+        height += 1;
+    }
     let mut j = start;
     loop {
         let next = j + 1;
         let ins = instruction(file, instruction_offset(f.base, j - 1));
-        let m = maker_of(constructors, functions, alternatives, ins);
+        let m = maker_of(file, heads, ins);
         if !m.makes {
             let Instruction::Load(a) = ins else {
                 return Straight::Ends(next);
@@ -140,7 +137,7 @@ pub fn straight_line(
         let at = height - m.arity;
         let made = m.bound;
         let arguments = [stack[at], stack[at + 1], stack[at + 2], stack[at + 3]];
-        let x = into_bound(made, m.arity, arguments);
+        let x = into_bound(file, made, m.arity, arguments);
         if x.count == 0 {
             return Straight::Refused(Reason::TooManyForms(place(g, j)));
         }

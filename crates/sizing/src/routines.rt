@@ -1,15 +1,18 @@
-// What the walk looks up: a function's arity, bound and code, and what a build or a call takes and makes.
-ghost use mathlib.Core.Path.{_≡_};
-ghost use mathlib.Core.List.{List};
-ghost use Prim.Native.Nat.{ℕ};
+// What the walk reads of a function: its arity, bound and code; and what a build or a call takes and makes.
+ghost use Prim.Native.Nat.{_+_, _≤_};
+ghost use lib.ListN.{length};
 ghost use Rattle.rules.specs.Container.{payload};
-ghost use Rattle.rules.specs.Records.{headOffset};
-ghost use Rattle.sizing.specs.Routines.{nameTables, BoundAsks, BoundOf, RoutineAsks, RoutineIs, buildMaker, MakerAsks, MakerIs};
-use crate::forms::Bound;
+ghost use Rattle.rules.specs.Records.{constructorOffset};
+ghost use Rattle.rules.specs.Established.{Verified};
+ghost use Rattle.rules.specs.There.{FunctionThere};
+ghost use Rattle.sizing.specs.Routines.{Records, RoutineIs, BuildIs, OperandThere, MakerIs};
+use crate::bounds::Bound;
+use readers::alternative_offset;
+use readers::constructor;
+use readers::constructor_offset;
+use readers::head;
 use readers::wide;
-use rules::records::AlternativeRecord;
 use rules::records::Instruction;
-use tables::alternative_in;
 
 // A function: its arity, its size bound, where its code starts, and how many instructions that has.
 pub struct Routine {
@@ -26,73 +29,54 @@ pub struct Maker {
     pub bound: Bound,
 }
 
-// The size bound of function g, which has so many alternatives. The rows behind them are zeros, and are not counted.
-fn bound_of(alternatives: &[[u16; 5]; 128], g: usize, count: u16) -> Bound
-    requires { ⌜ BoundAsks (now alternatives) g ⌝ }
-    ensures { λ r. ⌜ BoundOf (now (alternatives .entry)) g count r ⌝ }
+// The function whose head stands at an offset.
+pub fn routine_at(file: &[u8], at: usize) -> Routine
+    requires { ⌜ Verified (now file) × FunctionThere (payload (now file)) at ⌝ }
+    ensures { λ r. ⌜ RoutineIs (payload (now (file .entry))) at r ⌝ }
 {
-    let rows = [
-        alternative_in(alternatives[4 * g]),
-        alternative_in(alternatives[4 * g + 1]),
-        alternative_in(alternatives[4 * g + 2]),
-        alternative_in(alternatives[4 * g + 3]),
-    ];
-    Bound {
-        rows: rows,
-        count: count as usize,
-    }
-}
-
-// Function g.
-pub fn routine_of(functions: &[[u16; 9]; 32], alternatives: &[[u16; 5]; 128], g: usize) -> Routine
-    requires { ⌜ ((file : List ℕ) × (constructors : List (List ℕ))
-        × RoutineAsks file (nameTables constructors (now functions) (now alternatives)) g) ⌝ }
-    ensures { λ r. ⌜ ((file : List ℕ) (constructors : List (List ℕ))
-        → RoutineAsks file (nameTables constructors (now (functions .entry)) (now (alternatives .entry))) g
-        → RoutineIs (payload file) (headOffset (payload file) g) r) ⌝ }
-{
-    let row = functions[g];
-    let bound = bound_of(alternatives, g, row[6]);
+    let h = head(file, at);
+    let d = h.declaration;
+    let count = wide(h.alternatives);
     Routine {
-        arity: row[1] as usize,
-        bound: bound,
-        base: row[7] as usize,
-        last: row[8] as usize,
+        arity: wide(d.arity),
+        bound: Bound {
+            built: false,
+            weight: 0,
+            head: at,
+            count: count,
+        },
+        base: alternative_offset(at, count),
+        last: h.instructions as usize,
     }
 }
 
-// "A build is the single alternative of coefficients 1 and its weight".
-fn build_maker(row: [u16; 9]) -> Maker
-    ensures { λ r. ⌜ r ≡ buildMaker row ⌝ }
+// A build of constructor c.
+fn build_maker(file: &[u8], c: usize) -> Maker
+    requires { ⌜ Verified (now file) × (constructorOffset c + 8 ≤ length (payload (now file))) ⌝ }
+    ensures { λ r. ⌜ BuildIs (payload (now (file .entry))) c r ⌝ }
 {
-    let one = AlternativeRecord {
-        coefficients: [1u8; 4],
-        constant: row[6],
-    };
+    let k = constructor(file, constructor_offset(c));
+    let d = k.declaration;
     Maker {
         makes: true,
-        arity: row[1] as usize,
+        arity: wide(d.arity),
         bound: Bound {
-            rows: [one; 4],
+            built: true,
+            weight: k.weight,
+            head: 0,
             count: 1,
         },
     }
 }
 
-pub fn maker_of(
-    constructors: &[[u16; 9]; 64],
-    functions: &[[u16; 9]; 32],
-    alternatives: &[[u16; 5]; 128],
-    ins: Instruction,
-) -> Maker
-    requires { ⌜ ((file : List ℕ) × MakerAsks file (nameTables (now constructors) (now functions) (now alternatives)) ins) ⌝ }
-    ensures { λ r. ⌜ ((file : List ℕ) → MakerAsks file (nameTables (now (constructors .entry)) (now (functions .entry))
-        (now (alternatives .entry))) ins → MakerIs (payload file) ins r) ⌝ }
+pub fn maker_of(file: &[u8], heads: &[usize; 32], ins: Instruction) -> Maker
+    requires { ⌜ Records (now file) (now heads) × OperandThere (payload (now file)) ins ⌝ }
+    ensures { λ r. ⌜ MakerIs (payload (now (file .entry))) ins r ⌝ }
 {
     match ins {
-        Instruction::Build(c) => build_maker(constructors[wide(c)]),
+        Instruction::Build(c) => build_maker(file, wide(c)),
         Instruction::Call(g) => {
-            let f = routine_of(functions, alternatives, wide(g));
+            let f = routine_at(file, heads[wide(g)]);
             let bound = f.bound;
             Maker {
                 makes: true,
@@ -104,10 +88,9 @@ pub fn maker_of(
             makes: false,
             arity: 0,
             bound: Bound {
-                rows: [AlternativeRecord {
-                    coefficients: [0u8; 4],
-                    constant: 0,
-                }; 4],
+                built: true,
+                weight: 0,
+                head: 0,
                 count: 0,
             },
         },

@@ -8,8 +8,6 @@ ghost use Rattle.rules.specs.Records.{programIn, functionIn};
 ghost use Rattle.rules.specs.Shapes.{sizesOf, sizesRight};
 ghost use Rattle.rules.specs.declared.records.Instruction.the-variants as ins;
 ghost use Rattle.rules.specs.Established.{Typechecked, LaidOut};
-ghost use Rattle.tables.specs.Tables.{Tabled};
-ghost use Rattle.sizing.specs.Routines.{nameTables};
 ghost use Rattle.sizing.specs.Moves.{StartIs, StayIs, MoveAsks, LineMoveAsks, StepAsks, StepSays, FunctionAsks};
 use crate::line::Straight;
 use crate::line::straight_line;
@@ -18,8 +16,10 @@ use crate::paths::branch_variable;
 use crate::paths::load_variable;
 use crate::paths::unvisited;
 use crate::routines::Routine;
-use crate::routines::routine_of;
+use crate::routines::routine_at;
 use crate::splits::Split;
+use readers::constructor;
+use readers::constructor_offset;
 use readers::instruction;
 use readers::instruction_offset;
 use readers::wide;
@@ -28,7 +28,6 @@ use rules::answers::Place;
 use rules::answers::Reason;
 use rules::records::Header;
 use rules::records::Instruction;
-use tables::alternative_rows;
 
 // What leaves an instruction: a state for the slot of the next one and one for that of the else target, or for slot 0, which
 // is never read, where they are not visited; and the instruction to go on at.
@@ -100,15 +99,13 @@ fn slot_for(visited: bool, at: usize) -> usize
 }
 
 // A branch on constructor c, else b, at instruction i.
-fn branch(constructors: &[[u16; 9]; 64], g: usize, i: usize, st: Saved, c: u8, b: u16) -> Moved
-    requires { ⌜ ((file : List ℕ) × (functions : List (List ℕ)) × (alternatives : List (List ℕ))
-        × MoveAsks file (nameTables (now constructors) functions alternatives) g i st (ins.Branch c b)) ⌝ }
-    ensures { λ r. ⌜ ((file : List ℕ) (functions alternatives : List (List ℕ))
-        → MoveAsks file (nameTables (now (constructors .entry)) functions alternatives) g i st (ins.Branch c b)
-        → StepSays file g i st r) ⌝ }
+fn branch(file: &[u8], g: usize, i: usize, st: Saved, c: u8, b: u16) -> Moved
+    requires { ⌜ ((heads : List ℕ) × MoveAsks (now file) heads g i st (ins.Branch c b)) ⌝ }
+    ensures { λ r. ⌜ StepSays (now (file .entry)) g i st r ⌝ }
 {
-    let row = constructors[wide(c)];
-    let r = branch_variable(st, c, row[1] as u8, row[6] as u8);
+    let k = constructor(file, constructor_offset(wide(c)));
+    let d = k.declaration;
+    let r = branch_variable(st, c, d.arity, k.weight);
     if r.large {
         return refuse(Reason::TooManyForms(Place {
             function: g,
@@ -128,20 +125,11 @@ fn branch(constructors: &[[u16; 9]; 64], g: usize, i: usize, st: Saved, c: u8, b
 }
 
 // A first build or call, at instruction i.
-fn line_move(
-    file: &[u8],
-    constructors: &[[u16; 9]; 64],
-    functions: &[[u16; 9]; 32],
-    alternatives: &[[u16; 5]; 128],
-    g: usize,
-    f: Routine,
-    i: usize,
-    st: Saved,
-) -> Moved
-    requires { ⌜ LineMoveAsks (now file) (nameTables (now constructors) (now functions) (now alternatives)) g f i st ⌝ }
+fn line_move(file: &[u8], heads: &[usize; 32], g: usize, f: Routine, i: usize, st: Saved) -> Moved
+    requires { ⌜ LineMoveAsks (now file) (now heads) g f i st ⌝ }
     ensures { λ r. ⌜ StepSays (now (file .entry)) g i st r ⌝ }
 {
-    let line = straight_line(file, constructors, functions, alternatives, g, f, i, st);
+    let line = straight_line(file, heads, g, f, i, st);
     match line {
         Straight::Ends(j) => stay(j),
         Straight::Refused(reason) => refuse(reason),
@@ -149,17 +137,8 @@ fn line_move(
 }
 
 // Instruction i, with what arrives there.
-fn step(
-    file: &[u8],
-    constructors: &[[u16; 9]; 64],
-    functions: &[[u16; 9]; 32],
-    alternatives: &[[u16; 5]; 128],
-    g: usize,
-    f: Routine,
-    i: usize,
-    st: Saved,
-) -> Moved
-    requires { ⌜ StepAsks (now file) (nameTables (now constructors) (now functions) (now alternatives)) g f i st ⌝ }
+fn step(file: &[u8], heads: &[usize; 32], g: usize, f: Routine, i: usize, st: Saved) -> Moved
+    requires { ⌜ StepAsks (now file) (now heads) g f i st ⌝ }
     ensures { λ r. ⌜ StepSays (now (file .entry)) g i st r ⌝ }
 {
     if !st.visited {
@@ -175,41 +154,26 @@ fn step(
             far: 0,
             on: i + 1,
         },
-        Instruction::Build(_) | Instruction::Call(_) => line_move(
-            file,
-            constructors,
-            functions,
-            alternatives,
-            g,
-            f,
-            i,
-            st,
-        ),
-        Instruction::Branch(c, b) => branch(constructors, g, i, st, c, b),
+        Instruction::Build(_) | Instruction::Call(_) => line_move(file, heads, g, f, i, st),
+        Instruction::Branch(c, b) => branch(file, g, i, st, c, b),
         Instruction::Return => stay(i + 1),
         Instruction::Stop => stay(i + 1),
     }
 }
 
 // Function g: a slot for each instruction holds what arrives there.
-fn function_sizes(
-    file: &[u8],
-    constructors: &[[u16; 9]; 64],
-    functions: &[[u16; 9]; 32],
-    alternatives: &[[u16; 5]; 128],
-    g: usize,
-) -> Checked
-    requires { ⌜ FunctionAsks (now file) (nameTables (now constructors) (now functions) (now alternatives)) g ⌝ }
+fn function_sizes(file: &[u8], heads: &[usize; 32], g: usize) -> Checked
+    requires { ⌜ FunctionAsks (now file) (now heads) g ⌝ }
     ensures { λ r. ⌜ toldCheck r ≡ sizesOf (programIn (now (file .entry))) g (functionIn (now (file .entry)) g) ⌝ }
 {
-    let f = routine_of(functions, alternatives, g);
+    let f = routine_at(file, heads[g]);
     let mut saved = [unvisited(); 258];
     saved[1] = start_state(f.arity);
     let last = f.last;
     let mut i: usize = 1;
     while i <= last {
         let st = saved[i];
-        let m = step(file, constructors, functions, alternatives, g, f, i, st);
+        let m = step(file, heads, g, f, i, st);
         let checked = m.checked;
         if let Checked::Refused(reason) = checked {
             return Checked::Refused(reason);
@@ -226,22 +190,14 @@ fn function_sizes(
 }
 
 // For the crates above: 10 and 9 over all functions.
-pub fn sizes(
-    file: &[u8],
-    header: Header,
-    heads: &[usize; 32],
-    constructors: &[[u16; 9]; 64],
-    functions: &[[u16; 9]; 32],
-) -> Checked
-    requires { ⌜ Typechecked (now file) × LaidOut (now file) header (now heads)
-        × Tabled (now file) header (now constructors) (now functions) ⌝ }
+pub fn sizes(file: &[u8], header: Header, heads: &[usize; 32]) -> Checked
+    requires { ⌜ Typechecked (now file) × LaidOut (now file) header (now heads) ⌝ }
     ensures { λ r. ⌜ toldCheck r ≡ sizesRight (programIn (now (file .entry))) ⌝ }
 {
-    let alternatives = alternative_rows(file, header, heads, functions);
     let m = header.functions as usize;
     let mut g: usize = 0;
     while g < m {
-        let r = function_sizes(file, constructors, functions, &alternatives, g);
+        let r = function_sizes(file, heads, g);
         if let Checked::Refused(reason) = r {
             return Checked::Refused(reason);
         }

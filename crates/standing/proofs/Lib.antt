@@ -1,1 +1,2 @@
 pub mod StandingLaws
+pub mod Unpacked

@@ -1,8 +1,8 @@
 -- The payload bytes of lent blocks: how many there are, where they stand, and that of right blocks they are the payload.
-use mathlib.Core.Path.{_≡_, refl, sym, _∙_}
+use mathlib.Core.Path.{_≡_, refl, sym, ap, _∙_}
 use mathlib.Core.List.{List, []}
 use mathlib.Core.Bool.{Bool, true, false}
-use Prim.Native.Nat.{ℕ, _+_, _*_, _-_, _≤_, _<_, min}
+use Prim.Native.Nat.{ℕ, _+_, _*_, _-_, _%_, _≤_, _<_, min}
 use native.Mathlib.Omega.{arith}
 use lib.ListN.{length}
 use lib.Seq.{ext-getD}
@@ -14,6 +14,9 @@ use Rattle.rules.specs.Established.{Verified}
 use Rattle.rules.proofs.ContainerLaws.{verified-whole, verified-length, verified-byte}
 use Rattle.rules.proofs.ListLaws.{getD-element}
 use Rattle.rules.proofs.NumberedLaws.{numbered-length, numbered-there}
+use Rattle.rules.proofs.SameLaws.{Same}
+use Rattle.fields.specs.Onward.{onward, Reaches, Placed}
+use Rattle.fields.proofs.OnwardLaws.{record-reaches, record-same}
 use Rattle.standing.specs.Found.{lastBlock, extent, standing, whole, Inside, seen}
 
 -- as the code tests it, with no sum that could wrap
@@ -57,6 +60,10 @@ module _ (file : List ℕ) where
   standing-byte k h =
       sym (getD-element 0 (standing file) k (numbered-there (λ k. byteAt file (placeOf k)) (extent file) k h))
 
+  -- where a payload's bytes stand
+  pub standing-placed : Placed file (standing file) (extent file)
+  standing-placed = record { inside = place-inside; same = standing-byte }
+
   ---- A record
 
   module _ (size at : ℕ) where
@@ -71,8 +78,18 @@ module _ (file : List ℕ) where
     pub inside-whole : at + size ≤ extent file → Inside file (at + size)
     inside-whole h = record { counted = h; small = omega (arith, extent-small) }
 
+-- n bytes at an offset that are there, as the code finds them: the place of the first, and how many its block has left
+module _ {file : List ℕ} (at n : ℕ) (there : Inside file (at + n)) (some : 1 ≤ n) (short : n ≤ 504) {place left : ℕ}
+    (is : place ≡ placeOf at) (room : left ≡ 504 - at % 504) where
+  pub found-reaches : Reaches file place left n
+  found-reaches =
+      rw is (record-reaches (standing-placed file) at left n (there .counted) some short (omega arith) (λ l. room))
+
+  pub found-same : Same (onward file place left) 0 (standing file) at n
+  found-same = rw is (record-same (standing-placed file) at left n (there .counted) some short (omega arith) (λ l. room))
+
 -- of right blocks they are the payload
-pub standing-payload : (file : List ℕ) → Verified file → standing file ≡ payload file
+standing-payload : (file : List ℕ) → Verified file → standing file ≡ payload file
 standing-payload file v =
     let w = verified-whole file (v .blocks) in
     let l = verified-length file (v .blocks) in
@@ -80,3 +97,11 @@ standing-payload file v =
     omega (arith, extent-some file (omega (arith, w)), l) in
     ext-getD 0 _ _ (standing-length file ∙ n) (λ k h. sym (standing-byte file k (omega (arith, standing-length file, h)))
     ∙ verified-byte v k (omega (arith, standing-length file, h, n)))
+
+-- so a record of the payload is there whole, and read from it
+pub seen-payload : {file : List ℕ} → Verified file → (size at : ℕ) → at + size ≤ length (payload file)
+    → (whole size file at ≡ true) × (seen size file at ≡ payload file)
+seen-payload {file} v size at h =
+    let p = standing-payload file v in
+    let w = le-leb (at + size) (extent file) (omega (arith, ap length p, standing-length file)) in
+    (w, sym (seen-whole file size at w) ∙ p)

@@ -2,14 +2,16 @@
 // is 0.
 ghost use mathlib.Core.Path.{_≡_};
 ghost use mathlib.Core.List.{[]};
-ghost use Prim.Native.Nat.{_+_};
 ghost use Rattle.rules.specs.Records.{declarationAt};
-ghost use Rattle.standing.specs.Found.{standing, Inside};
 ghost use Rattle.standing.specs.Found.{headerFound, constructorFound, headFound, alternativeFound, instructionFound};
-use extent::byte;
-use extent::four;
 use extent::is_there;
-use extent::word;
+use fields::alternative_from;
+use fields::constructor_from;
+use fields::head_from;
+use fields::header_from;
+use fields::instruction_from;
+use fields::left_in_block;
+use fields::place_of;
 use rules::records::AlternativeRecord;
 use rules::records::ConstructorRecord;
 use rules::records::Declaration;
@@ -17,7 +19,7 @@ use rules::records::HeadRecord;
 use rules::records::Header;
 use rules::records::InstructionRecord;
 
-mod extent; // extent.rt: how far the payload of lent blocks goes, and its bytes
+mod extent; // extent.rt: how far the payload of lent blocks goes
 
 // What is found of a record: whether it is there whole, and then its fields.
 pub struct HeaderFound {
@@ -55,18 +57,6 @@ fn no_declaration() -> Declaration
     }
 }
 
-// What a constructor and a function head both begin with.
-fn declaration(file: &[u8], at: usize) -> Declaration
-    requires { ⌜ Inside (now file) (at + 6) ⌝ }
-    ensures { λ r. ⌜ r ≡ declarationAt (standing (now (file .entry))) at ⌝ }
-{
-    Declaration {
-        result: byte(file, at),
-        arity: byte(file, at + 1),
-        types: four(file, at + 2),
-    }
-}
-
 // The header.
 pub fn header_in(file: &[u8]) -> HeaderFound
     ensures { λ r. ⌜ r ≡ headerFound (now (file .entry)) ⌝ }
@@ -84,12 +74,7 @@ pub fn header_in(file: &[u8]) -> HeaderFound
     }
     HeaderFound {
         there: true,
-        header: Header {
-            edition: byte(file, 0),
-            types: byte(file, 1),
-            constructors: byte(file, 2),
-            functions: byte(file, 3),
-        },
+        header: header_from(file, 4, 4),
     }
 }
 
@@ -109,11 +94,7 @@ pub fn constructor_in(file: &[u8], at: usize) -> ConstructorFound
     }
     ConstructorFound {
         there: true,
-        constructor: ConstructorRecord {
-            declaration: declaration(file, at),
-            weight: byte(file, at + 6),
-            reserved: byte(file, at + 7),
-        },
+        constructor: constructor_from(file, place_of(at), left_in_block(at)),
     }
 }
 
@@ -134,12 +115,7 @@ pub fn head_in(file: &[u8], at: usize) -> HeadFound
     }
     HeadFound {
         there: true,
-        head: HeadRecord {
-            declaration: declaration(file, at),
-            alternatives: byte(file, at + 6),
-            reserved: byte(file, at + 7),
-            instructions: word(file, at + 8),
-        },
+        head: head_from(file, place_of(at), left_in_block(at)),
     }
 }
 
@@ -158,10 +134,7 @@ pub fn alternative_in(file: &[u8], at: usize) -> AlternativeFound
     }
     AlternativeFound {
         there: true,
-        alternative: AlternativeRecord {
-            coefficients: four(file, at),
-            constant: word(file, at + 4),
-        },
+        alternative: alternative_from(file, place_of(at), left_in_block(at)),
     }
 }
 
@@ -181,10 +154,6 @@ pub fn instruction_in(file: &[u8], at: usize) -> InstructionFound
     }
     InstructionFound {
         there: true,
-        instruction: InstructionRecord {
-            operation: byte(file, at),
-            a: byte(file, at + 1),
-            b: word(file, at + 2),
-        },
+        instruction: instruction_from(file, place_of(at), left_in_block(at)),
     }
 }

@@ -49,15 +49,19 @@ module _ {file index : List ℕ} {entry : ℕ} {arguments : List ℕ} (k : Calla
   known-entry = at-less (programIn file .functions) entry (k .known)
 
   pub few-functions : entry < 32
-  few-functions = function-read file index (k .indexed) entry known-entry .0
+  few-functions = function-read (k .indexed .parsed) entry known-entry .3
 
-  pub inputs-are : {n : ℕ} → n ≡ functionArity index entry → n ≡ length (k .f .parameters)
-  inputs-are e = e ∙ function-read file index (k .indexed) entry known-entry .1 ∙ inputs-is (programIn file) entry (k .known)
+  -- it is one of the file's
+  pub entry-there : entry < byteAt (payload file) 3
+  entry-there = function-read (k .indexed .parsed) entry known-entry .0
+
+  pub inputs-are : {n : ℕ} → n ≡ functionArity file entry → n ≡ length (k .f .parameters)
+  inputs-are e = e ∙ function-read (k .indexed .parsed) entry known-entry .1 ∙ inputs-is (programIn file) entry (k .known)
 
   -- at most four arguments
   pub few-inputs : length (k .f .parameters) ≤ 4
   few-inputs =
-      omega (arith, inputs-is (programIn file) entry (k .known), function-read file index (k .indexed) entry known-entry .2)
+      omega (arith, inputs-is (programIn file) entry (k .known), function-read (k .indexed .parsed) entry known-entry .2)
 
   vs-length : length (values (programIn file) arguments) ≡ length (k .f .parameters)
   vs-length = values-length (programIn file) (k .f) arguments (k .right)
@@ -91,7 +95,7 @@ module _ {file index : List ℕ} {entry : ℕ} {arguments : List ℕ} (k : Calla
 
   pub fitting : (budget : ℕ) (cells stack : List ℕ) (count : ℕ) {m : Limits} {n : ℕ} → budget < 4294967296
       → (m .cells ≡ min 65471 (length cells / 5)) × (m .stack ≡ min 65535 (length stack)) × (m .frames ≡ min 65535 count)
-      → n ≡ functionArity index entry → 0 < m .frames → n ≤ m .stack → cellsLoaded (programIn file) arguments ≤ m .cells
+      → n ≡ functionArity file entry → 0 < m .frames → n ≤ m .stack → cellsLoaded (programIn file) arguments ≤ m .cells
       → Fitting file index m entry n arguments budget cells stack count
   fitting budget cells stack count few (c, s, f) e frame slots room frames out l = record {
     callable = k;

@@ -1,9 +1,9 @@
 -- The arguments loaded: the pending references that are left are those to the values, one for each parameter, and go to the stack's bottom.
 use mathlib.Core.Path.{_≡_, sym, ap, _∙_, subst}
 use mathlib.Core.List.{List}
-use Prim.Native.Nat.{ℕ, _+_, _-_, _/_, _≤_, min, _<_}
+use Prim.Native.Nat.{ℕ, _+_, _-_, _/_, _≤_, min}
 use native.Mathlib.Omega.{arith}
-use lib.ListN.{length, getD}
+use lib.ListN.{length}
 use lib.Dec.{leb}
 use Rattle.rules.specs.Heap.{allocatedFor}
 use Rattle.rules.specs.Prefix.{argumentsRight, arity, readBytes}
@@ -11,6 +11,7 @@ use Rattle.rules.specs.Program.{Program, Function}
 use Rattle.rules.specs.Records.{programIn}
 use Rattle.rules.specs.Run.{Tables, cellsLoaded}
 use Rattle.rules.specs.Base.{passed}
+use Rattle.rules.specs.Established.{Parsed}
 use Rattle.rules.proofs.HeapRun.{references-length}
 use Rattle.rules.proofs.TriedLaws.{after-required}
 use Rattle.store.specs.Cells.{refs, RefsPut, heapIn}
@@ -20,7 +21,6 @@ use Rattle.store.specs.declared.limits.Limits.{Limits}
 use Rattle.store.proofs.CellLaws.{room-less}
 use Rattle.store.proofs.LimitLaws.{limits-of}
 use Rattle.store.proofs.RefLaws.{length-refs, put-kept}
-use Rattle.fetch.proofs.IndexLaws.{constructor-read}
 use Rattle.arguments.specs.Loading as arguments
 use Rattle.start.specs.Begins.{Beginning, Loading, Loaded, Callable}
 use Rattle.start.proofs.CallLaws.{few-inputs}
@@ -31,38 +31,38 @@ unfolding argumentsRight
 bytes-right s f bytes right = after-required (leb (length bytes) 65535) _ _ right .1
 
 -- what the arguments' crate asks of bytes that are right for a function
-pub arguments-loading : {s : Program} {index bytes : List ℕ} (f : Function) → argumentsRight s f bytes ≡ passed → length (f .parameters) ≤ 4
-    → ((c : ℕ) → c < length (s .constructors) → (c < 64) × (getD index c 0 ≡ arity s c) × (arity s c ≤ 4))
-    → arguments.Loading s index bytes
-arguments-loading {s} {bytes = bytes} f right few indexed = record {
+arguments-loading : {file bytes : List ℕ} (f : Function) → Parsed file → argumentsRight (programIn file) f bytes ≡ passed
+    → length (f .parameters) ≤ 4 → arguments.Loading file bytes
+arguments-loading {file} {bytes} f parsed right few = record {
+  parsed = parsed;
   pending = f .parameters;
-  right = bytes-right s f bytes right;
+  right = bytes-right (programIn file) f bytes right;
   few = omega (arith, few);
-  indexed = indexed;
 }
 
-pub callable-loading : {file index : List ℕ} {entry : ℕ} {bytes : List ℕ} → Callable file index entry bytes
-    → arguments.Loading (programIn file) index bytes
-callable-loading {file} {index} k =
-    arguments-loading (k .f) (k .right) (few-inputs k) (constructor-read file index (k .indexed))
+pub callable-loading : {file index : List ℕ} {entry : ℕ} {bytes : List ℕ} → Callable file index entry bytes → arguments.Loading file bytes
+callable-loading k = arguments-loading (k .f) (k .indexed .parsed) (k .right) (few-inputs k)
 
-module _ {s : Program} {index bytes cells stack : List ℕ} {n : ℕ} (l : Loading s index bytes cells stack n) where
-  pub loading-arguments : arguments.Roomy s index bytes cells
+module _ {file bytes cells stack : List ℕ} {n : ℕ} (l : Loading file bytes cells stack n) where
+  abbrev s : Program
+  s = programIn file
+
+  pub loading-arguments : arguments.Roomy file bytes cells
   loading-arguments = record {
-    loading = arguments-loading (l .f) (l .right) (omega (arith, l .inputs, l .few)) (l .indexed);
+    loading = arguments-loading (l .f) (l .parsed) (l .right) (omega (arith, l .inputs, l .few));
     room = l .room;
     few = l .few-cells;
   }
 
   -- as many references as parameters
-  references : length (allocatedFor s bytes .1) ≡ n
+  references : length (allocatedFor (programIn file) bytes .1) ≡ n
   references = references-length s 0 bytes (l .f .parameters) (bytes-right s (l .f) bytes (l .right)) ∙ sym (l .inputs)
 
-  module _ {cells′ numbers : List ℕ} {at used : ℕ} (h : arguments.MadeFor s bytes cells cells′ numbers at used) where
+  module _ {cells′ numbers : List ℕ} {at used : ℕ} (h : arguments.MadeFor (programIn file) bytes cells cells′ numbers at used) where
     pub pending-end : at + n ≡ 256
     pending-end = omega (arith, length-refs numbers at (256 - at), ap length (h .values), references, h .low)
 
-    pub loaded : {stack′ : List ℕ} → RefsPut 0 (refs numbers at n) stack stack′ → Loaded s bytes n cells stack cells′ stack′
+    pub loaded : {stack′ : List ℕ} → RefsPut 0 (refs numbers at n) stack stack′ → Loaded (programIn file) bytes n cells stack cells′ stack′
     loaded {stack′} p =
         let few : 256 - at ≡ n = omega (arith, pending-end) in
         let long = length-refs numbers at n in
@@ -90,11 +90,11 @@ module _ {file index : List ℕ} {m : Limits} {entry n : ℕ} {arguments : List 
   pub limits : LimitsOf m cells stack frames
   limits = limits-of m cells stack frames cells-are stack-is frames-are
 
-  pub loading : Loading (programIn file) index arguments cells stack n
+  pub loading : Loading file arguments cells stack n
   loading = record {
+    parsed = b .callable .indexed .parsed;
     f = b .callable .f;
     right = b .callable .right;
-    indexed = constructor-read file index (b .callable .indexed);
     inputs = b .inputs;
     few = omega (arith, b .inputs, few-inputs (b .callable));
     slots = omega (arith, b .slots, limits .stack-room);

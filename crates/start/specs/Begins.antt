@@ -4,7 +4,7 @@ use mathlib.Core.List.{List}
 use mathlib.Core.Bool.{true, false}
 use mathlib.Core.Option.{some}
 use Prim.Native.Nat.{ℕ, _≤_, _<_}
-use lib.ListN.{length, getD}
+use lib.ListN.{length}
 use Rattle.rules.specs.Records.{programIn}
 use Rattle.rules.specs.Base.{passed}
 use Rattle.rules.specs.Heap.{allocatedFor}
@@ -12,7 +12,7 @@ use Rattle.rules.specs.Lists.{Bytes}
 use Rattle.rules.specs.Program.{Function, Program, function}
 use Rattle.rules.specs.Prefix.{arity, argumentsRight}
 use Rattle.rules.specs.Run.{usable, cellsLoaded}
-use Rattle.rules.specs.Established.{Accepted}
+use Rattle.rules.specs.Established.{Parsed, Accepted}
 use Rattle.store.specs.Cells.{refs, constructorIn, CellRoom, heapIn, KeptFrom, CellsKept}
 use Rattle.store.specs.Limits.{tables}
 use Rattle.store.specs.declared.frames.Frame.{Frame}
@@ -47,15 +47,15 @@ Fitting file index m entry n arguments budget cells stack count =
     (frames : List Frame) (out : List ℕ) → length frames ≡ count → Beginning file index m entry n arguments budget cells stack frames out
 
 -- what loading asks: n arguments that are right for a function
-pub record Loading (s : Program) (index arguments cells stack : List ℕ) (n : ℕ) : Type 0 where
+pub record Loading (file arguments cells stack : List ℕ) (n : ℕ) : Type 0 where
+  pub parsed : Parsed file
   pub f : Function
-  pub right : argumentsRight s f arguments ≡ passed
-  pub indexed : (c : ℕ) → c < length (s .constructors) → (c < 64) × (getD index c 0 ≡ arity s c) × (arity s c ≤ 4)
+  pub right : argumentsRight (programIn file) f arguments ≡ passed
   pub inputs : n ≡ length (f .parameters)
   pub few : n ≤ 4
   pub slots : n ≤ length stack
-  pub room : CellRoom cells (cellsLoaded s arguments)
-  pub few-cells : cellsLoaded s arguments ≤ 65471
+  pub room : CellRoom cells (cellsLoaded (programIn file) arguments)
+  pub few-cells : cellsLoaded (programIn file) arguments ≤ 65471
 
 -- the registers of a function's first frame, with its code at a place, n arguments on the stack and so many cells in use
 abbrev pub first : ℕ → ℕ → ℕ → ℕ → ℕ → Registers

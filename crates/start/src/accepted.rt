@@ -1,7 +1,5 @@
 // From an accepted program to a run that has begun: the entry, the arguments, room for the start. None of this sees the frame table.
-ghost use mathlib.Core.List.{List};
-ghost use Prim.Native.Nat.{ℕ, _<_};
-ghost use Rattle.rules.specs.Lists.{Bytes};
+ghost use Prim.Native.Nat.{_<_};
 ghost use Rattle.rules.specs.Established.{Accepted, LaidOut};
 ghost use Rattle.start.specs.Begins.{Callable, Prepares};
 use crate::first::Begin;
@@ -16,7 +14,8 @@ use rules::answers::Reason;
 
 // The run of a program whose arguments are right: 17, 16 and 15 for loading.
 fn begin_called(
-    index: [u32; 128],
+    file: &[u8],
+    index: [u32; 64],
     entry: usize,
     arguments: &[u8],
     budget: usize,
@@ -24,13 +23,12 @@ fn begin_called(
     stack: &mut [u16],
     frames: usize,
 ) -> Begin
-    requires { ⌜ ((file : List ℕ) × Callable file index entry (now arguments)) × (budget < 4294967296) ⌝ }
-    ensures { λ b. ⌜ ((file : List ℕ) → Bytes file → Callable file index entry (now (arguments .entry))
-        → Prepares file entry (now (arguments .entry)) budget (now (cells .entry)) (now (stack .entry)) frames (now (cells .exit))
-        (now (stack .exit)) b) ⌝ }
+    requires { ⌜ Callable (now file) index entry (now arguments) × (budget < 4294967296) ⌝ }
+    ensures { λ b. ⌜ Prepares (now (file .entry)) entry (now (arguments .entry)) budget (now (cells .entry)) (now (stack .entry)) frames
+        (now (cells .exit)) (now (stack .exit)) b ⌝ }
 {
     let m = store::usable(cells.len(), stack.len(), frames);
-    let arity = fetch::function_arity(&index, entry);
+    let arity = fetch::function_arity(file, &index, entry);
     let place = Place {
         function: entry,
         instruction: 1,
@@ -41,10 +39,10 @@ fn begin_called(
     if m.stack < arity {
         return not_begun(Reason::OutOfStack(place));
     }
-    if !arguments::enough(&index, arguments, m.cells) {
+    if !arguments::enough(file, arguments, m.cells) {
         return not_begun(Reason::OutOfCells(place));
     }
-    let start = load(&index, arguments, cells, stack, entry, arity, budget);
+    let start = load(file, &index, arguments, cells, stack, entry, arity, budget);
     begun(index, m, start)
 }
 
@@ -74,5 +72,5 @@ pub fn begin_accepted(
     if let Checked::Refused(reason) = right {
         return not_begun(reason);
     }
-    begin_called(index, entry, arguments, budget, cells, stack, frames)
+    begin_called(file, index, entry, arguments, budget, cells, stack, frames)
 }

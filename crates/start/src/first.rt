@@ -2,7 +2,7 @@
 ghost use mathlib.Core.Path.{_≡_};
 ghost use mathlib.Core.Bool.{true, false};
 ghost use Prim.Native.Nat.{_<_};
-ghost use Rattle.rules.specs.Program.{Program};
+ghost use Rattle.rules.specs.Records.{programIn};
 ghost use Rattle.rules.specs.Run.{cellsLoaded};
 ghost use Rattle.rules.specs.declared.answers.Ending.the-variants as ends;
 ghost use Rattle.fetch.specs.Indexed.{codeAt};
@@ -18,7 +18,7 @@ use store::Limits;
 pub struct Begin {
     pub begun: bool,
     pub answer: Answer,
-    pub index: [u32; 128],
+    pub index: [u32; 64],
     pub limits: Limits,
     pub start: Registers,
 }
@@ -33,7 +33,7 @@ pub fn not_begun(reason: Reason) -> Begin
             ending: Ending::Refused(reason),
             steps: 0,
         },
-        index: [0; 128],
+        index: [0; 64],
         limits: Limits {
             cells: 0,
             stack: 0,
@@ -55,7 +55,7 @@ pub fn not_begun(reason: Reason) -> Begin
 }
 
 // A run that has begun. Its answer is not known yet.
-pub fn begun(index: [u32; 128], limits: Limits, start: Registers) -> Begin
+pub fn begun(index: [u32; 64], limits: Limits, start: Registers) -> Begin
     ensures { λ b. ⌜ (b .begun ≡ true) × (b .index ≡ index) × (b .limits ≡ limits) × (b .start ≡ start) ⌝ }
 {
     Begin {
@@ -72,7 +72,8 @@ pub fn begun(index: [u32; 128], limits: Limits, start: Registers) -> Begin
 
 // The arguments' cells, their values on the stack, and the first frame.
 pub fn load(
-    index: &[u32; 128],
+    file: &[u8],
+    index: &[u32; 64],
     arguments: &[u8],
     cells: &mut [u16],
     stack: &mut [u16],
@@ -80,16 +81,14 @@ pub fn load(
     arity: usize,
     budget: usize,
 ) -> Registers
-    requires { ⌜ ((s : Program) × Loading s (now index) (now arguments) (now cells) (now stack) arity) ⌝ }
+    requires { ⌜ Loading (now file) (now arguments) (now cells) (now stack) arity ⌝ }
     requires { ⌜ entry < 32 ⌝ }
-    ensures { λ r. ⌜ ((s : Program)
-        → Loading s (now (index .entry)) (now (arguments .entry)) (now (cells .entry)) (now (stack .entry)) arity
-        → r ≡ first entry (codeAt (now (index .entry)) entry) arity (cellsLoaded s (now (arguments .entry))) budget) ⌝ }
-    ensures { λ _. ⌜ ((s : Program)
-        → Loading s (now (index .entry)) (now (arguments .entry)) (now (cells .entry)) (now (stack .entry)) arity
-        → Loaded s (now (arguments .entry)) arity (now (cells .entry)) (now (stack .entry)) (now (cells .exit)) (now (stack .exit))) ⌝ }
+    ensures { λ r. ⌜ r ≡ first entry (codeAt (now (index .entry)) entry) arity
+        (cellsLoaded (programIn (now (file .entry))) (now (arguments .entry))) budget ⌝ }
+    ensures { λ _. ⌜ Loaded (programIn (now (file .entry))) (now (arguments .entry)) arity (now (cells .entry)) (now (stack .entry))
+        (now (cells .exit)) (now (stack .exit)) ⌝ }
 {
-    let pending = arguments::make_arguments(index, arguments, cells);
+    let pending = arguments::make_arguments(file, arguments, cells);
     let at = pending.at;
     let numbers = pending.numbers;
     store::copy(&numbers, at, stack, 0, arity);

@@ -51,11 +51,11 @@ module _ (file : List ℕ) (m : Limits) (cells stack : List ℕ) (r : Registers)
   }
 
   module _ (cells₁ stack₁ : List ℕ) (r₁ : Registers) (went : Went file m cells stack r cells₁ stack₁ r₁) where
-    pub ready-again : (index : List ℕ) → Ready file index m cells stack r → Ready file index m cells₁ stack₁ r₁
-    ready-again index ready =
+    pub ready-again : Ready file m cells stack r → Ready file m cells₁ stack₁ r₁
+    ready-again ready =
         let x = went .leads (r .left) (ready .instruction) (ready .waiting) (omega arith) (ready .standing) in
         record {
-          indexed = ready .indexed;
+          parsed = ready .parsed;
           lent = spared-lent m cells stack cells₁ stack₁ (went .spared) (ready .lent);
           going = went .going;
           instruction = x .0;

@@ -6,8 +6,9 @@ use mathlib.Core.Option.{some}
 use mathlib.Core.Bool.{true, false}
 use native.Mathlib.Omega.{arith}
 use lib.ListN.{length, set}
+use Rattle.rules.specs.Base.{byteAt}
 use Rattle.rules.specs.Container.{payload}
-use Rattle.rules.specs.Established.{Verified}
+use Rattle.rules.specs.Established.{Verified, Parsed}
 use Rattle.rules.specs.Heap.{frameOf, numberOf, isConstant}
 use Rattle.rules.specs.Machine.{current}
 use Rattle.rules.specs.Records.{programIn, instructionAt, operation, instructionOf, isSome}
@@ -20,7 +21,7 @@ use Rattle.store.proofs.RefLaws.{put-one, put-kept, kept-refl}
 use Rattle.store.proofs.CellLaws.{cell-put-kept, cells-kept-refl, arguments-length}
 use Rattle.rules.specs.Prefix.{arity}
 use Rattle.fetch.specs.Arities.{place}
-use Rattle.fetch.specs.Indexed.{Indexed, constructorArity}
+use Rattle.fetch.specs.Indexed.{constructorArity}
 use Rattle.fetch.specs.Places.{offsetAt, Inside, Behind}
 use Rattle.fetch.specs.Words.{WordThere}
 use Rattle.fetch.proofs.IndexLaws.{in-range, constructor-read}
@@ -38,7 +39,7 @@ use Rattle.steps.proofs.BranchLaws.{branch-deep, branch-old, branch-kno
 
 ---- The instruction of a standing frame
 
-module _ (file index : List ℕ) (indexed : Indexed file index) (m : Limits) (cells stack : List ℕ) (r : Registers) (i : ℕ) (ws : List Frame)
+module _ (file : List ℕ) (parsed : Parsed file) (m : Limits) (cells stack : List ℕ) (r : Registers) (i : ℕ) (ws : List Frame)
     (ok : Standing file m cells stack r i ws) where
   abbrev At : Instruction → Type 0
   At ins = current (programIn file) (place (r .function) i) ≡ some ins
@@ -52,10 +53,10 @@ module _ (file index : List ℕ) (indexed : Indexed file index) (m : Limits) (ce
   facts : (offsetAt (r .at) + 4 ≤ length (payload file)) × (r .function < length (programIn file .functions)) × (i ≤ 256)
       × (isSome (operation (instructionAt (payload file) (offsetAt (r .at)))) ≡ true)
       × (there-is .0 ≡ instructionOf (instructionAt (payload file) (offsetAt (r .at))))
-  facts = instruction-there file index indexed (r .function) i (r .at) (there-is .0) (ok .laid .at) (there-is .1)
+  facts = instruction-there parsed (r .function) i (r .at) (there-is .0) (ok .laid .at) (there-is .1)
 
   pub fetch-there : Verified file × Inside (r .at) × (offsetAt (r .at) + 4 ≤ length (payload file))
-  fetch-there = (indexed .parsed .verified, ok .laid .at .inside, facts .0)
+  fetch-there = (parsed .verified, ok .laid .at .inside, facts .0)
 
   pub function-there : r .function < length (programIn file .functions)
   function-there = facts .1
@@ -84,7 +85,7 @@ module _ (file index : List ℕ) (indexed : Indexed file index) (m : Limits) (ce
 spared-none : (m : Limits) (cells stack : List ℕ) → Spared m cells stack cells stack
 spared-none m cells stack = record { of-cells = cells-kept-refl (m .cells) cells; of-stack = kept-refl (m .stack) stack }
 
-module _ (file index : List ℕ) (m : Limits) (cells stack : List ℕ) (r : Registers) (ready : Ready file index m cells stack r)
+module _ (file : List ℕ) (m : Limits) (cells stack : List ℕ) (r : Registers) (ready : Ready file m cells stack r)
     (left : 0 < r .left) {w : ℕ} (word : WordThere (payload file) (offsetAt (r .at)) w) where
   abbrev i : ℕ
   i = ready .instruction
@@ -113,13 +114,13 @@ module _ (file index : List ℕ) (m : Limits) (cells stack : List ℕ) (r : Regi
   ---- Load
 
   pub load-ready : w % 256 ≡ 1 → (0 < w / 256 % 256) × (r .base + w / 256 % 256 ≤ r .top)
-  load-ready e = load-slot file m cells stack r i ws ok a (at-load file index (ready .indexed) m cells stack r i ws ok word e)
+  load-ready e = load-slot file m cells stack r i ws ok a (at-load file (ready .parsed) m cells stack r i ws ok word e)
 
   pub load-stepped : w % 256 ≡ 1 → (next : ℕ) → Behind (r .at) 1 next → next ≤ 40000 → {stack′ : List ℕ} {t : Registers}
       → Loads m stack r next (w / 256 % 256) stack′ t → Stepped file m cells stack r cells stack′ t
   load-stepped e next behind near {stack′} {t} x =
       stepped cells stack′ t (record { of-cells = cells-kept-refl (m .cells) cells; of-stack = kept x }) (same x)
-      (λ budget j vs fits on. load-comes file m cells stack r j vs on a (at-load file index (ready .indexed) m cells stack r j vs on word e)
+      (λ budget j vs fits on. load-comes file m cells stack r j vs on a (at-load file (ready .parsed) m cells stack r j vs on word e)
       budget fits left (ready .going) (ready .lent .stack-room) next behind near x)
     where
       same : {stack′ : List ℕ} {t : Registers} → Loads m stack r next (w / 256 % 256) stack′ t → t .left ≡ r .left
@@ -133,42 +134,41 @@ module _ (file index : List ℕ) (m : Limits) (cells stack : List ℕ) (r : Regi
 
   ---- Build
 
-  pub build-ready : w % 256 ≡ 2 → (w / 256 % 256 < 64) × (constructorArity index (w / 256 % 256) ≤ 4)
-      × (constructorArity index (w / 256 % 256) ≤ r .top)
+  pub build-ready : w % 256 ≡ 2 → (w / 256 % 256 < byteAt (payload file) 2) × (constructorArity file (w / 256 % 256) ≤ r .top)
   build-ready e =
-      let cur = at-build file index (ready .indexed) m cells stack r i ws ok word e in
-      let x = constructor-read file index (ready .indexed) a (build-known file m cells stack r i ws ok a cur) in
-      (x .0, omega (arith, x .1, x .2), omega (arith, x .1, build-deep file m cells stack r i ws ok a cur))
+      let cur = at-build file (ready .parsed) m cells stack r i ws ok word e in
+      let x = constructor-read (ready .parsed) a (build-known file m cells stack r i ws ok a cur) in
+      (x .0, omega (arith, x .1, build-deep file m cells stack r i ws ok a cur))
 
   pub build-stepped : w % 256 ≡ 2 → (next : ℕ) → Behind (r .at) 1 next → next ≤ 40000 → {cells′ stack′ : List ℕ} {t : Registers}
-      → Builds m cells stack r next (w / 256 % 256) (constructorArity index (w / 256 % 256)) cells′ stack′ t
+      → Builds m cells stack r next (w / 256 % 256) (constructorArity file (w / 256 % 256)) cells′ stack′ t
       → Stepped file m cells stack r cells′ stack′ t
   build-stepped e next behind near {cells′} {stack′} {t} x =
       stepped cells′ stack′ t (kept x) (same x)
       (λ budget j vs fits on.
-      build-comes file m cells stack r j vs on a (at-build file index (ready .indexed) m cells stack r j vs on word e)
-      (in-range file index (ready .indexed)) budget fits left (ready .going) (ready .lent .stack-room) next behind near _ is x)
+      build-comes file m cells stack r j vs on a (at-build file (ready .parsed) m cells stack r j vs on word e)
+      (in-range (ready .parsed)) budget fits left (ready .going) (ready .lent .stack-room) next behind near _ is x)
     where
       cur : current (programIn file) (place (r .function) i) ≡ some (Build (w / 256 % 256))
-      cur = at-build file index (ready .indexed) m cells stack r i ws ok word e
+      cur = at-build file (ready .parsed) m cells stack r i ws ok word e
 
-      is : constructorArity index (w / 256 % 256) ≡ arity (programIn file) (w / 256 % 256)
-      is = constructor-read file index (ready .indexed) a (build-known file m cells stack r i ws ok a cur) .1
+      is : constructorArity file (w / 256 % 256) ≡ arity (programIn file) (w / 256 % 256)
+      is = constructor-read (ready .parsed) a (build-known file m cells stack r i ws ok a cur) .1
 
       same : {cells′ stack′ : List ℕ} {t : Registers}
-          → Builds m cells stack r next (w / 256 % 256) (constructorArity index (w / 256 % 256)) cells′ stack′ t → t .left ≡ r .left
+          → Builds m cells stack r next (w / 256 % 256) (constructorArity file (w / 256 % 256)) cells′ stack′ t → t .left ≡ r .left
       same (build-full f) = refl
       same (build-constant f z) = refl
       same (build-short f z g) = refl
       same (build-goes f z g p) = refl
 
-      put : (number : ℕ) → r .top - constructorArity index (w / 256 % 256) < m .stack
-          → KeptFrom (m .stack) stack (set stack (r .top - constructorArity index (w / 256 % 256)) number)
+      put : (number : ℕ) → r .top - constructorArity file (w / 256 % 256) < m .stack
+          → KeptFrom (m .stack) stack (set stack (r .top - constructorArity file (w / 256 % 256)) number)
       put number f =
           put-kept _ _ stack _ (put-one stack _ number (omega (arith, f, ready .lent .stack-room))) (m .stack) (omega arith)
 
       kept : {cells′ stack′ : List ℕ} {t : Registers}
-          → Builds m cells stack r next (w / 256 % 256) (constructorArity index (w / 256 % 256)) cells′ stack′ t
+          → Builds m cells stack r next (w / 256 % 256) (constructorArity file (w / 256 % 256)) cells′ stack′ t
           → Spared m cells stack cells′ stack′
       kept (build-full f) = spared-none m cells stack
       kept (build-constant f z) = record { of-cells = cells-kept-refl (m .cells) cells; of-stack = put a f }
@@ -182,62 +182,61 @@ module _ (file index : List ℕ) (m : Limits) (cells stack : List ℕ) (r : Regi
 
   pub branch-ready : w % 256 ≡ 4 → (0 < r .top) × (topReference stack r < numberOf (m .cells))
   branch-ready e =
-      let cur = at-branch file index (ready .indexed) m cells stack r i ws ok word e in (
+      let cur = at-branch file (ready .parsed) m cells stack r i ws ok word e in (
         omega (arith, branch-deep file m cells stack r i ws ok a (w / 65536) cur),
         omega (arith, branch-old file m cells stack r i ws ok a (w / 65536) cur, ok .laid .taken),
       )
 
   pub branch-ready-same : w % 256 ≡ 4 → labelIn cells (topReference stack r) ≡ w / 256 % 256
-      → isConstant (topReference stack r) ≡ false → (w / 256 % 256 < 64) × (constructorArity index (w / 256 % 256) ≤ 4)
+      → isConstant (topReference stack r) ≡ false → Parsed file × (w / 256 % 256 < byteAt (payload file) 2)
   branch-ready-same e y z =
-      let cur = at-branch file index (ready .indexed) m cells stack r i ws ok word e in
-      let x = constructor-read file index (ready .indexed) a (branch-known file m cells stack r i ws ok a (w / 65536) cur y z) in
-      (x .0, omega (arith, x .1, x .2))
+      let cur = at-branch file (ready .parsed) m cells stack r i ws ok word e in
+      (ready .parsed, constructor-read (ready .parsed) a (branch-known file m cells stack r i ws ok a (w / 65536) cur y z) .0)
 
   pub branch-ready-other : w % 256 ≡ 4 → (labelIn cells (topReference stack r) ≡ w / 256 % 256 → ⊥)
       → (0 < w / 65536) × (w / 65536 ≤ 256) × Inside (r .code) × (r .code ≤ 33000)
   branch-ready-other e n =
-      let cur = at-branch file index (ready .indexed) m cells stack r i ws ok word e in
+      let cur = at-branch file (ready .parsed) m cells stack r i ws ok word e in
       let t = branch-target file m cells stack r i ws ok a (w / 65536) cur n in
-      let range = in-range file index (ready .indexed) .at (r .function) (w / 65536) (t .0) (t .1) in
+      let range = in-range (ready .parsed) .at (r .function) (w / 65536) (t .0) (t .1) in
       (current-first (programIn file) (r .function) (w / 65536) (t .1), range .1, ok .laid .code .inside, ok .laid .code-near)
 
   pub branch-stepped : w % 256 ≡ 4 → (next : ℕ) → Behind (r .at) 1 next → next ≤ 40000 → {stack′ : List ℕ} {t : Registers}
-      → Branches m cells stack r next (w / 256 % 256) (w / 65536) (constructorArity index (w / 256 % 256)) stack′ t
+      → Branches m cells stack r next (w / 256 % 256) (w / 65536) (constructorArity file (w / 256 % 256)) stack′ t
       → Stepped file m cells stack r cells stack′ t
   branch-stepped e next behind near {stack′} {t} x =
       stepped cells stack′ t (record { of-cells = cells-kept-refl (m .cells) cells; of-stack = kept x }) (same x)
       (λ budget j vs fits on. one-of x budget j vs fits on)
     where
       same : {stack′ : List ℕ} {t : Registers}
-          → Branches m cells stack r next (w / 256 % 256) (w / 65536) (constructorArity index (w / 256 % 256)) stack′ t → t .left ≡ r .left
+          → Branches m cells stack r next (w / 256 % 256) (w / 65536) (constructorArity file (w / 256 % 256)) stack′ t → t .left ≡ r .left
       same (branch-passes n p q) = refl
       same (branch-constant y z) = refl
       same (branch-full y z f) = refl
       same (branch-takes y z f p) = refl
 
       kept : {stack′ : List ℕ} {t : Registers}
-          → Branches m cells stack r next (w / 256 % 256) (w / 65536) (constructorArity index (w / 256 % 256)) stack′ t
+          → Branches m cells stack r next (w / 256 % 256) (w / 65536) (constructorArity file (w / 256 % 256)) stack′ t
           → KeptFrom (m .stack) stack stack′
       kept (branch-passes n p q) = kept-refl (m .stack) stack
       kept (branch-constant y z) = kept-refl (m .stack) stack
       kept (branch-full y z f) = kept-refl (m .stack) stack
       kept (branch-takes y z f p) = put-kept _ _ stack _ p (m .stack)
-          (omega (arith, arguments-length cells (cellOf (topReference stack r)) (constructorArity index (w / 256 % 256))))
+          (omega (arith, arguments-length cells (cellOf (topReference stack r)) (constructorArity file (w / 256 % 256))))
 
       cur : (j : ℕ) (vs : List Frame) → Standing file m cells stack r j vs
           → current (programIn file) (place (r .function) j) ≡ some (Branch (w / 256 % 256) (w / 65536))
-      cur j vs on = at-branch file index (ready .indexed) m cells stack r j vs on word e
+      cur j vs on = at-branch file (ready .parsed) m cells stack r j vs on word e
 
       is : labelIn cells (topReference stack r) ≡ w / 256 % 256 → isConstant (topReference stack r) ≡ false
-          → constructorArity index (w / 256 % 256) ≡ arity (programIn file) (w / 256 % 256)
-      is y z = constructor-read file index (ready .indexed) a (branch-known file m cells stack r i ws ok a (w / 65536) (cur i ws ok) y z) .1
+          → constructorArity file (w / 256 % 256) ≡ arity (programIn file) (w / 256 % 256)
+      is y z = constructor-read (ready .parsed) a (branch-known file m cells stack r i ws ok a (w / 65536) (cur i ws ok) y z) .1
 
       low : (labelIn cells (topReference stack r) ≡ w / 256 % 256 → ⊥) → 0 < w / 65536
       low n = branch-ready-other e n .0
 
       one-of : {stack′ : List ℕ} {t : Registers}
-          → Branches m cells stack r next (w / 256 % 256) (w / 65536) (constructorArity index (w / 256 % 256)) stack′ t
+          → Branches m cells stack r next (w / 256 % 256) (w / 65536) (constructorArity file (w / 256 % 256)) stack′ t
           → (budget j : ℕ) (vs : List Frame) (fits : r .left ≤ budget) (on : Standing file m cells stack r j vs)
           → Comes file m budget cells stack r j vs fits on cells stack′ t
       one-of (branch-passes n p q) budget j vs fits on =
@@ -277,12 +276,12 @@ module _ (file index : List ℕ) (m : Limits) (cells stack : List ℕ) (r : Regi
   pub call-stepped : w % 256 ≡ 3 → Stepped file m cells stack r cells stack (restingAt r (w / 256 % 256) 1)
   call-stepped e = resting-stepped a 1 (omega arith) (omega arith) (λ z. omega arith)
       (λ j vs on.
-      (λ _. at-call file index (ready .indexed) m cells stack r j vs on word e, λ z. absurd (omega arith), λ z. absurd (omega arith)))
+      (λ _. at-call file (ready .parsed) m cells stack r j vs on word e, λ z. absurd (omega arith), λ z. absurd (omega arith)))
 
   pub return-stepped : w % 256 ≡ 5 → Stepped file m cells stack r cells stack (resting r 2)
   return-stepped e = resting-stepped (r .callee) 2 (omega arith) (omega arith) (λ z. omega arith)
       (λ j vs on.
-      (λ z. absurd (omega arith), λ _. at-return file index (ready .indexed) m cells stack r j vs on word e, λ z. absurd (omega arith)))
+      (λ z. absurd (omega arith), λ _. at-return file (ready .parsed) m cells stack r j vs on word e, λ z. absurd (omega arith)))
 
   pub stop-stepped : (w % 256 ≡ 1 → ⊥) → (w % 256 ≡ 2 → ⊥) → (w % 256 ≡ 3 → ⊥) → (w % 256 ≡ 4 → ⊥) → (w % 256 ≡ 5 → ⊥)
       → Stepped file m cells stack r cells stack (resting r 4)
@@ -290,5 +289,5 @@ module _ (file index : List ℕ) (m : Limits) (cells stack : List ℕ) (r : Regi
       (λ j vs on. (
         λ z. absurd (omega arith),
         λ z. absurd (omega arith),
-        λ _. at-stop file index (ready .indexed) m cells stack r j vs on word n₁ n₂ n₃ n₄ n₅,
+        λ _. at-stop file (ready .parsed) m cells stack r j vs on word n₁ n₂ n₃ n₄ n₅,
       ))

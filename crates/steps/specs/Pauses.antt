@@ -2,16 +2,16 @@
 use mathlib.Core.Path.{_≡_}
 use mathlib.Core.List.{List}
 use Prim.Native.Nat.{ℕ, _≤_}
+use Rattle.rules.specs.Established.{Parsed}
 use Rattle.store.specs.declared.frames.Frame.{Frame}
 use Rattle.store.specs.declared.limits.Limits.{Limits}
-use Rattle.fetch.specs.Indexed.{Indexed}
 use Rattle.steps.specs.Stands.{Lent, Standing, LeadsTo, Spared}
 use Rattle.steps.specs.Steps.{Rests}
 use Rattle.steps.specs.declared.state.Registers.{Registers}
 
 -- the top frame stands on tables above some frames that wait
-pub record Ready (file index : List ℕ) (m : Limits) (cells stack : List ℕ) (r : Registers) : Type 0 where
-  pub indexed : Indexed file index
+pub record Ready (file : List ℕ) (m : Limits) (cells stack : List ℕ) (r : Registers) : Type 0 where
+  pub parsed : Parsed file
   pub lent : Lent m cells stack
   pub going : r .why ≡ 0
   pub instruction : ℕ

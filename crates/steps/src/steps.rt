@@ -17,6 +17,9 @@ ghost use mathlib.Core.Path.{_≡_};
 ghost use mathlib.Core.Bool.{false};
 ghost use Prim.Native.Nat.{_+_, _≤_, _<_};
 ghost use lib.ListN.{length};
+ghost use Rattle.rules.specs.Base.{byteAt};
+ghost use Rattle.rules.specs.Container.{payload};
+ghost use Rattle.rules.specs.Established.{Parsed};
 ghost use Rattle.rules.specs.Heap.{isConstant, numberOf};
 ghost use Rattle.store.specs.Cells.{labelIn};
 ghost use Rattle.fetch.specs.Indexed.{constructorArity};
@@ -50,7 +53,7 @@ fn load(stack: &mut [u16], m: Limits, r: Registers, next: usize, a: usize) -> Re
 
 // Build: constructor c takes the place of the top values that are its arguments. A constant takes no cell.
 fn build(
-    index: &[u32; 128],
+    file: &[u8],
     cells: &mut [u16],
     stack: &mut [u16],
     m: Limits,
@@ -58,12 +61,12 @@ fn build(
     next: usize,
     c: usize,
 ) -> Registers
-    requires { ⌜ Lent m (now cells) (now stack) × (c < 64) × (constructorArity (now index) c ≤ 4)
-        × (constructorArity (now index) c ≤ r .top) × (r .top ≤ m .stack) ⌝ }
-    ensures { λ t. ⌜ Builds m (now (cells .entry)) (now (stack .entry)) r next c (constructorArity (now (index .entry)) c)
+    requires { ⌜ (Parsed (now file) × (c < byteAt (payload (now file)) 2)) × Lent m (now cells) (now stack)
+        × (constructorArity (now file) c ≤ r .top) × (r .top ≤ m .stack) ⌝ }
+    ensures { λ t. ⌜ Builds m (now (cells .entry)) (now (stack .entry)) r next c (constructorArity (now (file .entry)) c)
         (now (cells .exit)) (now (stack .exit)) t ⌝ }
 {
-    let n = constructor_arity(index, c);
+    let n = constructor_arity(file, c);
     let used = r.used;
     let from = r.top - n;
     if from >= m.stack {
@@ -84,7 +87,7 @@ fn build(
 
 // Branch: a top value of constructor c gives way to its arguments; with any other, b is next.
 fn branch(
-    index: &[u32; 128],
+    file: &[u8],
     cells: &[u16],
     stack: &mut [u16],
     m: Limits,
@@ -96,10 +99,10 @@ fn branch(
     requires { ⌜ Lent m (now cells) (now stack) × (0 < r .top) × (r .top ≤ m .stack)
         × (topReference (now stack) r < numberOf (m .cells)) ⌝ }
     requires { ⌜ (labelIn (now cells) (topReference (now stack) r) ≡ c → isConstant (topReference (now stack) r) ≡ false
-        → (c < 64) × (constructorArity (now index) c ≤ 4)) ⌝ }
+        → Parsed (now file) × (c < byteAt (payload (now file)) 2)) ⌝ }
     requires { ⌜ ((labelIn (now cells) (topReference (now stack) r) ≡ c → ⊥) → (0 < b) × (b ≤ 256) × Inside (r .code)
         × (r .code ≤ 33000)) ⌝ }
-    ensures { λ t. ⌜ Branches m (now (cells .entry)) (now (stack .entry)) r next c b (constructorArity (now (index .entry)) c)
+    ensures { λ t. ⌜ Branches m (now (cells .entry)) (now (stack .entry)) r next c b (constructorArity (now (file .entry)) c)
         (now (stack .exit)) t ⌝ }
 {
     let last = r.top - 1;
@@ -110,7 +113,7 @@ fn branch(
     if store::is_constant(k) {
         return went(r, next, last);
     }
-    let n = constructor_arity(index, c);
+    let n = constructor_arity(file, c);
     if last + n > m.stack {
         return paused(r, NO_STACK);
     }
@@ -129,15 +132,8 @@ fn called(r: Registers, g: usize) -> Registers
 }
 
 // One step of the top frame, or why it rests.
-fn one(
-    file: &[u8],
-    index: &[u32; 128],
-    cells: &mut [u16],
-    stack: &mut [u16],
-    m: Limits,
-    r: Registers,
-) -> Registers
-    requires { ⌜ Ready (now file) (now index) m (now cells) (now stack) r × (0 < r .left) ⌝ }
+fn one(file: &[u8], cells: &mut [u16], stack: &mut [u16], m: Limits, r: Registers) -> Registers
+    requires { ⌜ Ready (now file) m (now cells) (now stack) r × (0 < r .left) ⌝ }
     ensures { λ t. ⌜ Stepped (now (file .entry)) m (now (cells .entry)) (now (stack .entry)) r (now (cells .exit)) (now (stack .exit)) t ⌝ }
 {
     let f = fetch(file, r.at);
@@ -146,9 +142,9 @@ fn one(
     let a = (w / 256 % 256) as usize;
     match operation {
         1 => load(stack, m, r, f.next, a),
-        2 => build(index, cells, stack, m, r, f.next, a),
+        2 => build(file, cells, stack, m, r, f.next, a),
         3 => called(r, a),
-        4 => branch(index, cells, stack, m, r, f.next, a, (w / 65536) as usize),
+        4 => branch(file, cells, stack, m, r, f.next, a, (w / 65536) as usize),
         5 => paused(r, RETURNS),
         _ => paused(r, STOPS),
     }
@@ -157,19 +153,18 @@ fn one(
 // For the crates above: runs the top frame until it calls, returns or stops, a table is full, or no step is left.
 pub fn straight(
     file: &[u8],
-    index: &[u32; 128],
     cells: &mut [u16],
     stack: &mut [u16],
     m: Limits,
     start: Registers,
 ) -> Registers
-    requires { ⌜ Ready (now file) (now index) m (now cells) (now stack) start ⌝ }
+    requires { ⌜ Ready (now file) m (now cells) (now stack) start ⌝ }
     ensures { λ t. ⌜ Pauses (now (file .entry)) m (now (cells .entry)) (now (stack .entry)) start (now (cells .exit)) (now (stack .exit))
         t ⌝ }
 {
     let mut r = start;
     while r.left > 0 {
-        let t = one(file, index, cells, stack, m, r);
+        let t = one(file, cells, stack, m, r);
         if t.why != GOES {
             return t;
         }

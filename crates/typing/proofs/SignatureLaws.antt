@@ -13,23 +13,20 @@ use Rattle.rules.specs.declared.records.Header.{Header}
 use Rattle.rules.specs.declared.records.Instruction.the-variants.{Build, Call, Branch}
 use Rattle.rules.specs.Base.{passed, refusal, orRefuse, _>>=_, byteAt}
 use Rattle.rules.specs.Container.{payload}
-use Rattle.rules.specs.Established.{Headed}
+use Rattle.rules.specs.Established.{Headed, LaidOut}
 use Rattle.rules.specs.Program.{Constructor, Function, Program, constructor, function}
-use Rattle.rules.specs.Records.{declarationAt, constructorAt, constructorOffset, headOffset, argumentsOf, constructorOf, functionOf}
+use Rattle.rules.specs.Records.{declarationAt, constructorAt, constructorOffset, argumentsOf, constructorOf, functionOf}
 use Rattle.rules.specs.Records.{programOf, programIn, functionIn}
 use Rattle.rules.specs.Flow.{flowOf, flowRight}
 use Rattle.rules.specs.Types.{typeRule}
 use Rattle.rules.proofs.EachLaws.{each-from-0}
 use Rattle.rules.proofs.NumberedLaws.{numbered-at, numbered-past}
-use Rattle.tables.specs.Tables.{signatureIn}
 use Rattle.operands.specs.declared.stack.Stack.{Stack}
 use Rattle.operands.specs.declared.named.Lookup.{Lookup}
 use Rattle.operands.specs.Operands.{stackOf, Holds, applied, branched, Signature, Finds}
-use Rattle.typing.specs.Typing.{Named}
 use Rattle.operands.specs.Operands.{appliedTo, branchedTo}
 use Rattle.typing.specs.Typing.{constructorSignature, functionSignature, notFound}
-use Rattle.program.proofs.LayoutLaws.{constructors-count, functions-count, constructor-there, function-there}
-use Rattle.tables.proofs.TableLaws.{signature-small}
+use Rattle.program.proofs.LayoutLaws.{constructors-count, functions-count, constructor-there, function-there, head-placed}
 
 ---- What has a number
 
@@ -59,7 +56,7 @@ module _ {file : List ℕ} {h : Header} (o : Headed file h) where
       ∙ ap (λ (x : ℕ). some (functionIn file x)) (zero-add g)
 
   -- the flow of a function, where that of all has passed
-  pub flow-passed : flowRight (programIn file) ≡ passed → (g : ℕ) → g < h .functions → flowOf g (functionIn file g) ≡ passed
+  flow-passed : flowRight (programIn file) ≡ passed → (g : ℕ) → g < h .functions → flowOf g (functionIn file g) ≡ passed
   unfolding flowRight
   flow-passed e g l = each-from-0 flowOf (programIn file .functions) .0 e g (functionIn file g) (function-known g l)
 
@@ -76,49 +73,31 @@ finds-some : {o : Option Signature} {d : Declaration} → o ≡ some (argumentsO
     → Finds o (record { known = true; signature = d })
 finds-some e few = record { unknown = λ q. let z : _≡_ {A = ℕ} 0 1 = cc in absurd (omega arith); known = λ _. e; few = few }
 
-module _ {file : List ℕ} {h : Header} {constructors functions : List (List ℕ)} (a : Named file h constructors functions) where
-  module _ (c : ℕ) where
-    pub constructor-missing : {l : Lookup} → l ≡ notFound → h .constructors ≤ c
-        → Finds (constructorSignature (constructor (programIn file) c)) l
-    constructor-missing e q = rw e (finds-none (ap constructorSignature (constructor-unknown (a .tabled .headed) c q)))
+module _ {file : List ℕ} {h : Header} (o : Headed file h) (c : ℕ) where
+  pub constructor-missing : {l : Lookup} → l ≡ notFound → h .constructors ≤ c
+      → Finds (constructorSignature (constructor (programIn file) c)) l
+  constructor-missing e q = rw e (finds-none (ap constructorSignature (constructor-unknown o c q)))
 
-    module _ (l : c < h .constructors) where
-      pub constructor-small : (j : ℕ) → j < 6 → getD (getD constructors c []) j 0 < 256
-      constructor-small j k =
-          rw (a .tabled .constructor .row c l)
-          (signature-small (a .tabled .headed .parsed .verified) (a .bytes) (constructorOffset c) _ _ _ j k)
+  -- as it is read where it stands
+  pub constructor-found : {d : Declaration} → c < h .constructors → d ≡ declarationAt (payload file) (constructorOffset c)
+      → Finds (constructorSignature (constructor (programIn file) c)) (record { known = true; signature = d })
+  unfolding constructorOf
+  constructor-found l e = rw e (finds-some (ap constructorSignature (constructor-known o c l)) (constructor-there o c l .1))
 
-      pub constructor-found : {d : Declaration} → d ≡ signatureIn (getD constructors c [])
-          → Finds (constructorSignature (constructor (programIn file) c)) (record { known = true; signature = d })
-      unfolding constructorOf
-      constructor-found {d} e =
-          let is : d ≡ declarationAt (payload file) (constructorOffset c) = e ∙ ap signatureIn (a .tabled .constructor .row c l) in
-          rw is
-          (finds-some (ap constructorSignature (constructor-known (a .tabled .headed) c l)) (constructor-there (a .tabled .headed) c l .1))
+module _ {file : List ℕ} {h : Header} {heads : List ℕ} (o : LaidOut file h heads) (g : ℕ) where
+  pub function-missing : {l : Lookup} → l ≡ notFound → h .functions ≤ g → Finds (functionSignature (function (programIn file) g)) l
+  function-missing e q = rw e (finds-none (ap functionSignature (function-unknown (o .headed) g q)))
 
-  module _ (g : ℕ) where
-    pub function-missing : {l : Lookup} → l ≡ notFound → h .functions ≤ g → Finds (functionSignature (function (programIn file) g)) l
-    function-missing e q = rw e (finds-none (ap functionSignature (function-unknown (a .tabled .headed) g q)))
+  pub function-found : {d : Declaration} → g < h .functions → d ≡ declarationAt (payload file) (getD heads g 0)
+      → Finds (functionSignature (function (programIn file) g)) (record { known = true; signature = d })
+  unfolding functionOf
+  function-found l e =
+      rw (e, head-placed o g l)
+      (finds-some (ap functionSignature (function-known (o .headed) g l)) (function-there (o .headed) g l .arity))
 
-    module _ (l : g < h .functions) where
-      pub function-small : (j : ℕ) → j < 6 → getD (getD functions g []) j 0 < 256
-      function-small j k =
-          rw (a .tabled .function .row g l)
-          (signature-small (a .tabled .headed .parsed .verified) (a .bytes) (headOffset (payload file) g) _ _ _ j k)
-
-      pub function-signature : {d : Declaration} → d ≡ signatureIn (getD functions g [])
-          → (d ≡ declarationAt (payload file) (headOffset (payload file) g)) × (d .arity ≤ 4)
-      function-signature {d} e =
-          let is : d ≡ declarationAt (payload file) (headOffset (payload file) g) = e ∙ ap signatureIn (a .tabled .function .row g l) in
-          (is, rw is (function-there (a .tabled .headed) g l .arity))
-
-      pub function-found : {d : Declaration} → d ≡ signatureIn (getD functions g [])
-          → Finds (functionSignature (function (programIn file) g)) (record { known = true; signature = d })
-      unfolding functionOf
-      function-found {d} e =
-          let s = function-signature e in
-          rw (s .0)
-          (finds-some (ap functionSignature (function-known (a .tabled .headed) g l)) (function-there (a .tabled .headed) g l .arity))
+  -- its flow is right, where its head stands by the layout
+  pub flow-placed : flowRight (programIn file) ≡ passed → g < h .functions → flowOf g (functionOf (payload file) (getD heads g 0)) ≡ passed
+  flow-placed e l = rw (head-placed o g l) (flow-passed (o .headed) e g l)
 
 ---- The rules over what is found
 

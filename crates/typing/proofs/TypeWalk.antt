@@ -22,12 +22,12 @@ use Rattle.rules.proofs.RuleLaws.{type-all}
 use Rattle.rules.proofs.PassLaws.{Passing, pass-first, pass-stop, pass-next, pass-end}
 use Rattle.rules.proofs.WalkingLaws.{WalkOn, walking-start, walking-here, walking-next}
 use Rattle.rules.proofs.Accepted.{FlowsRightly, flows-rightly}
-use Rattle.tables.specs.declared.code.Code.{Code}
+use Rattle.program.specs.declared.code.Code.{Code}
 use Rattle.operands.specs.declared.stack.Stack.{Stack}
 use Rattle.operands.specs.declared.operation.TypedStep.{TypedStep}
 use Rattle.operands.specs.Operands.{stackOf, InBounds, Holds, typedOf, TypeSays}
 use Rattle.typing.specs.Typing.{Aims}
-use Rattle.tables.proofs.CodeLaws.{codeAt, CodeThere, code-short, code-length, code-slot, code-along}
+use Rattle.program.proofs.CodeLaws.{codeAt, CodeThere, code-short, code-length, code-slot, code-along}
 use mathlib.Core.Bool.{true, false}
 use Rattle.rules.proofs.ListLaws.{none-some, some-inj, any-append-left, any-append-right}
 

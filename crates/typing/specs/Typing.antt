@@ -1,14 +1,11 @@
--- What the parts of the type pass ask for, and the signatures that instructions name.
-use mathlib.Core.List.{List, [], _∷_}
+-- The signatures that instructions name, and what the type pass asks of an instruction.
+use mathlib.Core.List.{[], _∷_}
 use mathlib.Core.Bool.{false}
 use mathlib.Core.Option.{Option, none, some}
-use Prim.Native.Nat.{ℕ, _≤_, _<_}
-use lib.ListN.{getD}
-use Rattle.rules.specs.declared.records.Header.{Header}
+use Prim.Native.Nat.{_≤_}
 use Rattle.rules.specs.declared.records.Instruction.{Instruction}
 use Rattle.rules.specs.declared.records.Instruction.the-variants.{Load, Build, Call, Branch, Return, Stop}
 use Rattle.rules.specs.Program.{Constructor, Function}
-use Rattle.tables.specs.Tables.{Tabled}
 use Rattle.operands.specs.declared.named.Lookup.{Lookup}
 use Rattle.operands.specs.Operands.{Signature}
 
@@ -35,8 +32,3 @@ Aims (Call g) = Unit {0}
 Aims (Branch c b) = 1 ≤ b
 Aims Return = Unit {0}
 Aims Stop = Unit {0}
-
--- a parsed file with its header and tables, as bytes
-pub record Named (file : List ℕ) (h : Header) (constructors functions : List (List ℕ)) : Type 0 where
-  pub tabled : Tabled file h constructors functions
-  pub bytes : (k : ℕ) → getD file k 0 < 256

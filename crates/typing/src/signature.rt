@@ -1,11 +1,10 @@
-// The signature that an instruction names, looked up by its number.
+// The signature that an instruction names, read where it stands.
 ghost use mathlib.Core.Path.{_≡_};
-ghost use mathlib.Core.List.{List};
-ghost use Prim.Native.Nat.{ℕ};
 ghost use Rattle.rules.specs.Program.{constructor, function};
 ghost use Rattle.rules.specs.Records.{programIn};
+ghost use Rattle.rules.specs.Established.{Headed, LaidOut};
 ghost use Rattle.operands.specs.Operands.{Finds};
-ghost use Rattle.typing.specs.Typing.{Named, constructorSignature, functionSignature, notFound};
+ghost use Rattle.typing.specs.Typing.{constructorSignature, functionSignature, notFound};
 use operands::Lookup;
 use rules::records::Declaration;
 use rules::records::Header;
@@ -23,30 +22,28 @@ fn not_found() -> Lookup
     }
 }
 
-pub fn constructor_signature(header: Header, constructors: &[[u16; 9]; 64], c: u8) -> Lookup
-    requires { ⌜ ((file : List ℕ) × (functions : List (List ℕ)) × Named file header (now constructors) functions) ⌝ }
-    ensures { λ r. ⌜ ((file : List ℕ) (functions : List (List ℕ)) → Named file header (now (constructors .entry)) functions
-        → Finds (constructorSignature (constructor (programIn file) c)) r) ⌝ }
+pub fn constructor_signature(file: &[u8], header: Header, c: u8) -> Lookup
+    requires { ⌜ Headed (now file) header ⌝ }
+    ensures { λ r. ⌜ Finds (constructorSignature (constructor (programIn (now (file .entry))) c)) r ⌝ }
 {
     if c >= header.constructors {
         return not_found();
     }
     Lookup {
         known: true,
-        signature: tables::signature_in(constructors[readers::wide(c)]),
+        signature: readers::constructor_declaration(file, readers::wide(c)),
     }
 }
 
-pub fn function_signature(header: Header, functions: &[[u16; 9]; 32], g: u8) -> Lookup
-    requires { ⌜ ((file : List ℕ) × (constructors : List (List ℕ)) × Named file header constructors (now functions)) ⌝ }
-    ensures { λ r. ⌜ ((file : List ℕ) (constructors : List (List ℕ)) → Named file header constructors (now (functions .entry))
-        → Finds (functionSignature (function (programIn file) g)) r) ⌝ }
+pub fn function_signature(file: &[u8], header: Header, heads: &[usize; 32], g: u8) -> Lookup
+    requires { ⌜ LaidOut (now file) header (now heads) ⌝ }
+    ensures { λ r. ⌜ Finds (functionSignature (function (programIn (now (file .entry))) g)) r ⌝ }
 {
     if g >= header.functions {
         return not_found();
     }
     Lookup {
         known: true,
-        signature: tables::signature_in(functions[readers::wide(g)]),
+        signature: readers::declaration(file, heads[readers::wide(g)]),
     }
 }

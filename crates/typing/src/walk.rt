@@ -4,9 +4,7 @@ ghost use Prim.Native.Nat.{_<_};
 ghost use Rattle.rules.specs.Answers.{toldCheck};
 ghost use Rattle.rules.specs.Records.{programIn, functionIn};
 ghost use Rattle.rules.specs.Types.{typesOf, typesRight};
-ghost use Rattle.rules.specs.Established.{Flowing};
-ghost use Rattle.tables.specs.Tables.{Tabled};
-ghost use Rattle.typing.specs.Typing.{Named};
+ghost use Rattle.rules.specs.Established.{Flowing, LaidOut};
 use crate::step;
 use rules::answers::Checked;
 use rules::answers::Place;
@@ -14,19 +12,13 @@ use rules::answers::Reason;
 use rules::records::Header;
 
 // The types of function g: a slot for each instruction has the stack that arrives there, and slot 0 what goes nowhere.
-fn types_of(
-    file: &[u8],
-    header: Header,
-    constructors: &[[u16; 9]; 64],
-    functions: &[[u16; 9]; 32],
-    g: usize,
-) -> Checked
-    requires { ⌜ Flowing (now file) × Named (now file) header (now constructors) (now functions) × (g < header .functions) ⌝ }
+fn types_of(file: &[u8], header: Header, heads: &[usize; 32], g: usize) -> Checked
+    requires { ⌜ Flowing (now file) × LaidOut (now file) header (now heads) × (g < header .functions) ⌝ }
     ensures { λ r. ⌜ toldCheck r ≡ typesOf (programIn (now (file .entry))) g (functionIn (now (file .entry)) g) ⌝ }
 {
-    let row = functions[g];
-    let signature = tables::signature_in(row);
-    let code = tables::code_of(row);
+    let at = heads[g];
+    let signature = readers::declaration(file, at);
+    let code = program::code_at(file, at);
     let last = code.last;
     let none = operands::empty();
     let mut waiting = [none; 257];
@@ -36,15 +28,7 @@ fn types_of(
         let i = k + 1;
         let ins = readers::instruction(file, readers::instruction_offset(code.base, k));
         let here = waiting[i];
-        let typed = step::type_step(
-            header,
-            constructors,
-            functions,
-            signature.result,
-            i,
-            ins,
-            here,
-        );
+        let typed = step::type_step(file, header, heads, signature.result, i, ins, here);
         if typed.wrong {
             return Checked::Refused(Reason::BadTypes(Place {
                 function: g,
@@ -62,19 +46,14 @@ fn types_of(
 }
 
 // For the crates above: number 8 over all functions, where 7 has passed.
-pub fn types(
-    file: &[u8],
-    header: Header,
-    constructors: &[[u16; 9]; 64],
-    functions: &[[u16; 9]; 32],
-) -> Checked
-    requires { ⌜ Flowing (now file) × Tabled (now file) header (now constructors) (now functions) ⌝ }
+pub fn types(file: &[u8], header: Header, heads: &[usize; 32]) -> Checked
+    requires { ⌜ Flowing (now file) × LaidOut (now file) header (now heads) ⌝ }
     ensures { λ r. ⌜ toldCheck r ≡ typesRight (programIn (now (file .entry))) ⌝ }
 {
     let m = header.functions as usize;
     let mut g: usize = 0;
     while g < m {
-        let found = types_of(file, header, constructors, functions, g);
+        let found = types_of(file, header, heads, g);
         if let Checked::Refused(reason) = found {
             return Checked::Refused(reason);
         }

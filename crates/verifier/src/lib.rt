@@ -108,22 +108,20 @@ fn check_declarations(file: &[u8], n: usize) -> Contents
     }
 }
 
-// 7, 8, and 10 and 9: the code of all functions. The constructors and heads are read once for all of them.
+// 7, 8, and 10 and 9: the code of all functions.
 fn check_code(file: &[u8], layout: Layout) -> Checked
     requires { ⌜ Declared (now file) × LaidOut (now file) (layout .header) (layout .heads) ⌝ }
     ensures { λ r. ⌜ CodedRight (now (file .entry)) r ⌝ }
 {
     let header = layout.header;
     let heads = layout.heads;
-    let constructors = tables::constructor_rows(file, header);
-    let functions = tables::function_rows(file, header, &heads);
-    let flow = flow::flows(file, header, &functions);
+    let flow = flow::flows(file, header, &heads);
     if let Checked::Refused(reason) = flow {
         return Checked::Refused(reason);
     }
-    let types = typing::types(file, header, &constructors, &functions);
+    let types = typing::types(file, header, &heads);
     if let Checked::Refused(reason) = types {
         return Checked::Refused(reason);
     }
-    sizing::sizes(file, header, &heads, &constructors, &functions)
+    sizing::sizes(file, header, &heads)
 }

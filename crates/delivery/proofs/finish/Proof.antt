@@ -21,7 +21,7 @@ returns : tie.Need-returns
 returns c =
     let at-wipe = c .before .before .before .before in
     let at-deliver = at-wipe .before .before .before .before .before in
-    (λ file says i ws e. at-deliver .deliver .ensures file _ says i ws e, at-wipe .wipe .ensures)
+    (λ says i ws e. at-deliver .deliver .ensures _ says i ws e, at-wipe .wipe .ensures)
 
 pub finish-spec : {M : Type 1} → statement M
 finish-spec =

@@ -3,26 +3,25 @@ use Prim.Native.Nat.{_-_, _≤_}
 use native.Mathlib.Omega.{arith}
 use borrow.Author.Needs.{needs}
 use Rattle.rules.specs.Container.{payload}
-use Rattle.rules.specs.Records.{headOffset}
-use Rattle.tables.proofs.CodeLaws.{code-there, code-short, code-here, code-read, base-small}
+use Rattle.program.proofs.CodeLaws.{code-there, code-short, code-here, code-read, base-small}
 use Rattle.flow.proofs.FlowLaws.{FlowOn, flow-start, flow-wrong, flow-next, flow-end, flow-room}
 use Rattle.flow.proofs.flow_of.Statement.{statement}
 use Rattle.flow.proofs.flow_of.Tie as tie
 
 abbrev Inv-loop : tie.InvT-loop
-Inv-loop file g code last waiting₀ k₀ waiting k = FlowOn (payload file) (headOffset (payload file) g) g code k waiting
+Inv-loop file g at code last waiting₀ k₀ waiting k = FlowOn (payload file) at g code k waiting
 
 abbrev μ-loop : tie.MeasureT-loop
-μ-loop file g code last waiting₀ k₀ waiting k = code .last - k
+μ-loop file g at code last waiting₀ k₀ waiting k = code .last - k
 
-code-of-requires : tie.Need-code-of-requires Inv-loop μ-loop
-code-of-requires c κs = search needs
+code-at-requires : tie.Need-code-at-requires Inv-loop μ-loop
+code-at-requires c κs = search needs
 
 array-write-waiting : tie.Need-array-write-waiting Inv-loop μ-loop
 array-write-waiting c = search needs
 
 loop-holds : tie.Need-loop-holds Inv-loop μ-loop
-loop-holds c = flow-start _ _ _ _ (code-there _ (c .before .before .pre .0) (c .before .before .pre .1) (c .code-of .ensures))
+loop-holds c = flow-start _ _ _ _ (code-there (c .before .before .pre .0) (c .before .before .pre .1) (c .code-at .ensures))
 
 add-i : tie.Need-add-i Inv-loop μ-loop
 add-i c = omega (arith, code-short (c .before .loop .inv .code))
@@ -119,7 +118,7 @@ flow-of-spec =
     (tie.spec
     Inv-loop
     μ-loop
-    code-of-requires
+    code-at-requires
     array-write-waiting
     loop-holds
     add-i

@@ -1,5 +1,6 @@
 -- `interpreter::run` meets its contract: a walk of its MIR, by hand. `begin` says whether the run begins. If so, the index is lent from a
--- local to `drive` and `finish`, the tables are lent again to `drive`, and go for good to `finish` and `clear_frames`.
+-- local to `drive`, the tables are lent again to `drive`, and go for good to `finish` and `clear_frames`. The file is only read: what a
+-- callee gets of it is a copy.
 use mathlib.Core.Path.{_≡_, refl, _∙_, ap, subst}
 use mathlib.Core.Bool.{Bool, true, false, not}
 use Prim.Native.Nat.{ℕ}
@@ -33,7 +34,7 @@ use denote.Array.{Array}
 use denote.Memory.{pointee}
 use denote.Laws.{Is, shows}
 use denote.Builtin.{u8, u16, u32}
-use denote.Ref.{RefT, ShrRef, shr-copy}
+use denote.Ref.{RefT, ShrRef}
 use denote.Slice.{sliceTy, sliceVal, MutSlice, ShrSlice, Room, slice-vals, mut-slice-tells, shr-slice-tells, shr-slice-copy}
 use denote.Steps.{only, owned, peeks, heard, nothing}
 use denote.Struct.Laws as LL
@@ -150,7 +151,7 @@ abbrev MR : RattleType
 MR = Lm.the-row
 
 abbrev IX : RattleType
-IX = Array u32 128
+IX = Array u32 64
 
 abbrev τ-ref : Ty
 τ-ref = tyRef erased mut (tyInt w16)
@@ -382,15 +383,15 @@ module _ {M : Type 1} (𝓤 : URA M) (H : Heap 𝓤) (A : Atoms 𝓤) (W : Given
 
     module _ (r : Registers) (is-r : Is RR r (Rg′.lowered r ∷ [])) (cs₂ ss₂ : List ℕ) (fs₂ : List Frame)
         (e : Ends (file .now) (b .limits) cs₁ ss₁ fs (b .start) cs₂ ss₂ fs₂ r) where
-      abbrev to-finish : ℕ → GName → Finish 𝓤 H A mem run .Ghost
-      to-finish ν₀ δ₀ = (
+      abbrev to-finish : Finish 𝓤 H A mem run .Ghost
+      to-finish = (
         (
-          (ν₀ ∷ [], (κ₂, (κ₃, (κ₅, tt)))),
-          (fullShare, (q₂, (q₃, (q₅, tt)))),
+          (κ₀, (κ₂, (κ₃, (κ₅, tt)))),
+          (q₀, (q₂, (q₃, (q₅, tt)))),
           tt,
-          (index δ₀, (cells γ₂ cs₂, (stack γ₃ ss₂, (b .limits, (r, (budget, (out, tt))))))),
+          (file, (cells γ₂ cs₂, (stack γ₃ ss₂, (b .limits, (r, (budget, (out, tt))))))),
           (
-            vptr l 0 ∷ [],
+            s₀ ∷ [],
             (
               s₂ ∷ [],
               (
@@ -407,16 +408,15 @@ module _ {M : Type 1} (𝓤 : URA M) (H : Heap 𝓤) (A : Atoms 𝓤) (W : Given
       )
 
       ends-as : (i : ℕ) × (ws : List Frame)
-          × Ended (file .now) (b .index) (b .limits) budget (said-by fits) cs₂ ss₂ r i ws
+          × Ended (file .now) (b .limits) budget (said-by fits) cs₂ ss₂ r i ws
       ends-as = ended fits (prep .small) (prep .loaded) (prep .at-first) e
 
-      goes-finish : (ν₀ : ℕ) (δ₀ : GName)
-          → ent 𝓤 (⋆ 𝓤 H A (‵ (flft (ν₀ ∷ []) fullShare) ∷ ‵ (flft κ₂ q₂) ∷ ‵ (flft κ₃ q₃) ∷ ‵ (flft κ₅ q₅) ∷ ‵ (OwnIndex ν₀ δ₀)
-          ∷ ‵ (OwnCells cs₂) ∷ ‵ (OwnStack ss₂) ∷ ‵ OwnOut ∷ [])) (Finish 𝓤 H A mem run .pre (to-finish ν₀ δ₀))
-      goes-finish ν₀ δ₀ =
-          qed W (‵ (flft (ν₀ ∷ []) fullShare) ∷ ‵ (flft κ₂ q₂) ∷ ‵ (flft κ₃ q₃) ∷ ‵ (flft κ₅ q₅) ∷ ‵ (OwnIndex ν₀ δ₀)
+      goes-finish : ent 𝓤 (⋆ 𝓤 H A (‵ (flft κ₀ q₀) ∷ ‵ (flft κ₂ q₂) ∷ ‵ (flft κ₃ q₃) ∷ ‵ (flft κ₅ q₅) ∷ ‵ OwnFile
+          ∷ ‵ (OwnCells cs₂) ∷ ‵ (OwnStack ss₂) ∷ ‵ OwnOut ∷ [])) (Finish 𝓤 H A mem run .pre to-finish)
+      goes-finish =
+          qed W (‵ (flft κ₀ q₀) ∷ ‵ (flft κ₂ q₂) ∷ ‵ (flft κ₃ q₃) ∷ ‵ (flft κ₅ q₅) ∷ ‵ OwnFile
           ∷ ‵ (OwnCells cs₂) ∷ ‵ (OwnStack ss₂) ∷ ‵ OwnOut ∷ []) ∵
-          says ! (file .now, said-by fits, ends-as .0, ends-as .1, ends-as .2) $
+          says ! (said-by fits, ends-as .0, ends-as .1, ends-as .2) $
           nothing ! $ move ! (1 ∷ 2 ∷ 3 ∷ 4 ∷ 0 ∷ []) $ group ! 5 $ frame ! $
           nothing ! $ move ! (4 ∷ 0 ∷ []) $ fjoin ! $ owned ! u32 (Is u32) (uint-makes 𝓤 H A W w32) budget _ is-budget $ fjoin ! $
           owned ! RR (Is RR) (LL.makes Rg.the-type Rg′.the-plain 𝓤 H A) r _ is-r $ fjoin ! $
@@ -425,8 +425,8 @@ module _ {M : Type 1} (𝓤 : URA M) (H : Heap 𝓤) (A : Atoms 𝓤) (W : Given
 
       -- what the contract of `finish` says
       abbrev Finishes : List ℕ → List ℕ → List ℕ → Answer → Type 0
-      Finishes cs₃ ss₃ os r′ = ((f : List ℕ) (says : Outcome) (i : ℕ) (ws : List Frame)
-          → Ended f (b .index) (b .limits) budget says cs₂ ss₂ r i ws → Delivers says (out .now) os r′) × Wiped (b .limits) cs₂ ss₂ cs₃
+      Finishes cs₃ ss₃ os r′ = ((says : Outcome) (i : ℕ) (ws : List Frame)
+          → Ended (file .now) (b .limits) budget says cs₂ ss₂ r i ws → Delivers says (out .now) os r′) × Wiped (b .limits) cs₂ ss₂ cs₃
           ss₃
 
       abbrev count : ℕ
@@ -449,7 +449,7 @@ module _ {M : Type 1} (𝓤 : URA M) (H : Heap 𝓤) (A : Atoms 𝓤) (W : Given
       ran : {cs₃ ss₃ os : List ℕ} {r′ : Answer} (fs₃ : List Frame) → Finishes cs₃ ss₃ os r′ → fs₃ ≡ tableAfter true noFrame count fs₂
           → Ran r′ cs₃ ss₃ fs₃ os
       ran fs₃ (d, w) wf = runs-on fits (prep .small) (prep .loaded) (prep .at-first) e w wf
-          (d (file .now) (said-by fits) (ends-as .0) (ends-as .1) (ends-as .2))
+          (d (said-by fits) (ends-as .0) (ends-as .1) (ends-as .2))
 
   module _ (𝓣 : Tables 𝓤 H) (known-begin : Triple 𝓤 (𝓣 .C #begins) (Begins 𝓤 H A mem run))
       (known-drive : Triple 𝓤 (𝓣 .C #drive) (Drive 𝓤 H A mem run))
@@ -481,26 +481,26 @@ module _ {M : Type 1} (𝓤 : URA M) (H : Heap 𝓤) (A : Atoms 𝓤) (W : Given
     told-b : (t : Begin) (u : Val) → Is BR t (u ∷ []) → Is BR t (low t ∷ [])
     told-b t u is = subst (λ (vs : List Val). Is BR t vs) (LL.tells Bg.the-type Bg′.the-laws t _ is) is
 
-    module _ (l₀ l₁ l₂ l₃ l₄ l₅ l₆ l₇ l₈ l₉ l₁₀ l₁₁ l₁₂ l₁₃ l₁₄ l₁₅ l₁₆ l₁₇ l₁₈ l₁₉ l₂₀ l₂₁ l₂₂ l₂₃ l₂₄ l₂₅ l₂₆ l₂₇ l₂₈ l₂₉ l₃₀ l₃₁ l₃₂
-        l₃₃ l₃₄ l₃₅ : ℕ) where
+    module _ (l₀ l₁ l₂ l₃ l₄ l₅ l₆ l₇ l₈ l₉ l₁₀ l₁₁ l₁₂ l₁₃ l₁₄ l₁₅ l₁₆ l₁₇ l₁₈ l₁₉ l₂₀ l₂₁ l₂₂ l₂₃ l₂₄ l₂₅ l₂₆ l₂₇ l₂₈ l₂₉ l₃₀ l₃₁
+        l₃₂ l₃₃ l₃₄ : ℕ) where
       abbrev En : Env 𝓤 H
       En = (An′.mir, l₀) ∷ (sliceTy (tyRef (named 0) imm (tyInt w8)), l₁) ∷ (tyInt w32, l₂) ∷
           (sliceTy (tyRef (named 1) imm (tyInt w8)), l₃) ∷ (tyInt w32, l₄) ∷ (sliceTy (tyRef (named 2) mut (tyInt w16)), l₅) ∷
           (sliceTy (tyRef (named 3) mut (tyInt w16)), l₆) ∷ (sliceTy (tyRef (named 4) mut (pointee (FR .written))), l₇) ∷
           (sliceTy (tyRef (named 5) mut (tyInt w8)), l₈) ∷ (Bg′.mir, l₉) ∷ (lone (IX .mir), l₁₀) ∷ (Rg′.mir, l₁₁) ∷ (An′.mir, l₁₂) ∷
           (τ-ref, l₁₃) ∷ (sliceTy τ-ref, l₁₄) ∷ (τ-ref, l₁₅) ∷ (sliceTy τ-ref, l₁₆) ∷ (tyInt w64, l₁₇) ∷ (tyBool, l₁₈) ∷ (τ-ix, l₁₉) ∷
-          (τ-ref, l₂₀) ∷ (sliceTy τ-ref, l₂₁) ∷ (τ-ref, l₂₂) ∷ (sliceTy τ-ref, l₂₃) ∷ (τ-fr, l₂₄) ∷ (sliceTy τ-fr, l₂₅) ∷ (τ-ix, l₂₆) ∷
-          (τ-ref, l₂₇) ∷ (sliceTy τ-ref, l₂₈) ∷ (τ-ref, l₂₉) ∷ (sliceTy τ-ref, l₃₀) ∷ (τ-out, l₃₁) ∷ (sliceTy τ-out, l₃₂) ∷ (tyUnit, l₃₃)
-          ∷ (τ-fr, l₃₄) ∷ (sliceTy τ-fr, l₃₅) ∷ []
+          (τ-ref, l₂₀) ∷ (sliceTy τ-ref, l₂₁) ∷ (τ-ref, l₂₂) ∷ (sliceTy τ-ref, l₂₃) ∷ (τ-fr, l₂₄) ∷ (sliceTy τ-fr, l₂₅) ∷
+          (τ-ref, l₂₆) ∷ (sliceTy τ-ref, l₂₇) ∷ (τ-ref, l₂₈) ∷ (sliceTy τ-ref, l₂₉) ∷ (τ-out, l₃₀) ∷ (sliceTy τ-out, l₃₁) ∷ (tyUnit, l₃₂)
+          ∷ (τ-fr, l₃₃) ∷ (sliceTy τ-fr, l₃₄) ∷ []
 
       abbrev Before : List (Item 𝓤)
       Before = ‵ (flft κ₀ q₀) ∷ ‵ (flft κ₁ q₁) ∷ ‵ (flft κ₂ q₂) ∷ ‵ (flft κ₃ q₃) ∷ ‵ (flft κ₄ q₄) ∷ ‵ (flft κ₅ q₅) ∷ ‵ OwnFile
-          ∷ ‵ OwnArgs ∷ ‵ (OwnCells cs) ∷ ‵ (OwnStack ss) ∷ ‵ (OwnFrames fs) ∷ ‵ OwnOut ∷ ‵ (froom (sliceTy τ-fr) l₃₅ 0)
-          ∷ ‵ (fdies (sliceTy τ-fr) l₃₅) ∷ ‵ (froom τ-fr l₃₄ 0) ∷ ‵ (fdies τ-fr l₃₄) ∷ ‵ (froom tyUnit l₃₃ 0) ∷ ‵ (fdies tyUnit l₃₃)
-          ∷ ‵ (froom (sliceTy τ-out) l₃₂ 0) ∷ ‵ (fdies (sliceTy τ-out) l₃₂) ∷ ‵ (froom τ-out l₃₁ 0) ∷ ‵ (fdies τ-out l₃₁)
-          ∷ ‵ (froom (sliceTy τ-ref) l₃₀ 0) ∷ ‵ (fdies (sliceTy τ-ref) l₃₀) ∷ ‵ (froom τ-ref l₂₉ 0) ∷ ‵ (fdies τ-ref l₂₉)
-          ∷ ‵ (froom (sliceTy τ-ref) l₂₈ 0) ∷ ‵ (fdies (sliceTy τ-ref) l₂₈) ∷ ‵ (froom τ-ref l₂₇ 0) ∷ ‵ (fdies τ-ref l₂₇)
-          ∷ ‵ (froom τ-ix l₂₆ 0) ∷ ‵ (fdies τ-ix l₂₆) ∷ ‵ (froom (sliceTy τ-fr) l₂₅ 0) ∷ ‵ (fdies (sliceTy τ-fr) l₂₅)
+          ∷ ‵ OwnArgs ∷ ‵ (OwnCells cs) ∷ ‵ (OwnStack ss) ∷ ‵ (OwnFrames fs) ∷ ‵ OwnOut ∷ ‵ (froom (sliceTy τ-fr) l₃₄ 0)
+          ∷ ‵ (fdies (sliceTy τ-fr) l₃₄) ∷ ‵ (froom τ-fr l₃₃ 0) ∷ ‵ (fdies τ-fr l₃₃) ∷ ‵ (froom tyUnit l₃₂ 0) ∷ ‵ (fdies tyUnit l₃₂)
+          ∷ ‵ (froom (sliceTy τ-out) l₃₁ 0) ∷ ‵ (fdies (sliceTy τ-out) l₃₁) ∷ ‵ (froom τ-out l₃₀ 0) ∷ ‵ (fdies τ-out l₃₀)
+          ∷ ‵ (froom (sliceTy τ-ref) l₂₉ 0) ∷ ‵ (fdies (sliceTy τ-ref) l₂₉) ∷ ‵ (froom τ-ref l₂₈ 0) ∷ ‵ (fdies τ-ref l₂₈)
+          ∷ ‵ (froom (sliceTy τ-ref) l₂₇ 0) ∷ ‵ (fdies (sliceTy τ-ref) l₂₇) ∷ ‵ (froom τ-ref l₂₆ 0) ∷ ‵ (fdies τ-ref l₂₆)
+          ∷ ‵ (froom (sliceTy τ-fr) l₂₅ 0) ∷ ‵ (fdies (sliceTy τ-fr) l₂₅)
           ∷ ‵ (froom τ-fr l₂₄ 0) ∷ ‵ (fdies τ-fr l₂₄) ∷ ‵ (froom (sliceTy τ-ref) l₂₃ 0) ∷ ‵ (fdies (sliceTy τ-ref) l₂₃)
           ∷ ‵ (froom τ-ref l₂₂ 0) ∷ ‵ (fdies τ-ref l₂₂) ∷ ‵ (froom (sliceTy τ-ref) l₂₁ 0) ∷ ‵ (fdies (sliceTy τ-ref) l₂₁)
           ∷ ‵ (froom τ-ref l₂₀ 0) ∷ ‵ (fdies τ-ref l₂₀) ∷ ‵ (froom τ-ix l₁₉ 0) ∷ ‵ (fdies τ-ix l₁₉) ∷ ‵ (froom tyBool l₁₈ 0)
@@ -524,12 +524,12 @@ module _ {M : Type 1} (𝓤 : URA M) (H : Heap 𝓤) (A : Atoms 𝓤) (W : Given
       -- after `begin`
       abbrev Mid : Begin → List ℕ → List ℕ → List (Item 𝓤)
       Mid b cs₁ ss₁ = ‵ (flft κ₀ q₀) ∷ ‵ (flft κ₁ q₁) ∷ ‵ (flft κ₂ q₂) ∷ ‵ (flft κ₃ q₃) ∷ ‵ (flft κ₄ q₄) ∷ ‵ (flft κ₅ q₅) ∷ ‵ OwnFile
-          ∷ ‵ OwnArgs ∷ ‵ (OwnCells cs₁) ∷ ‵ (OwnStack ss₁) ∷ ‵ (OwnFrames fs) ∷ ‵ OwnOut ∷ ‵ (froom (sliceTy τ-fr) l₃₅ 0)
-          ∷ ‵ (fdies (sliceTy τ-fr) l₃₅) ∷ ‵ (froom τ-fr l₃₄ 0) ∷ ‵ (fdies τ-fr l₃₄) ∷ ‵ (froom tyUnit l₃₃ 0) ∷ ‵ (fdies tyUnit l₃₃)
-          ∷ ‵ (froom (sliceTy τ-out) l₃₂ 0) ∷ ‵ (fdies (sliceTy τ-out) l₃₂) ∷ ‵ (froom τ-out l₃₁ 0) ∷ ‵ (fdies τ-out l₃₁)
-          ∷ ‵ (froom (sliceTy τ-ref) l₃₀ 0) ∷ ‵ (fdies (sliceTy τ-ref) l₃₀) ∷ ‵ (froom τ-ref l₂₉ 0) ∷ ‵ (fdies τ-ref l₂₉)
-          ∷ ‵ (froom (sliceTy τ-ref) l₂₈ 0) ∷ ‵ (fdies (sliceTy τ-ref) l₂₈) ∷ ‵ (froom τ-ref l₂₇ 0) ∷ ‵ (fdies τ-ref l₂₇)
-          ∷ ‵ (froom τ-ix l₂₆ 0) ∷ ‵ (fdies τ-ix l₂₆) ∷ ‵ (froom (sliceTy τ-fr) l₂₅ 0) ∷ ‵ (fdies (sliceTy τ-fr) l₂₅)
+          ∷ ‵ OwnArgs ∷ ‵ (OwnCells cs₁) ∷ ‵ (OwnStack ss₁) ∷ ‵ (OwnFrames fs) ∷ ‵ OwnOut ∷ ‵ (froom (sliceTy τ-fr) l₃₄ 0)
+          ∷ ‵ (fdies (sliceTy τ-fr) l₃₄) ∷ ‵ (froom τ-fr l₃₃ 0) ∷ ‵ (fdies τ-fr l₃₃) ∷ ‵ (froom tyUnit l₃₂ 0) ∷ ‵ (fdies tyUnit l₃₂)
+          ∷ ‵ (froom (sliceTy τ-out) l₃₁ 0) ∷ ‵ (fdies (sliceTy τ-out) l₃₁) ∷ ‵ (froom τ-out l₃₀ 0) ∷ ‵ (fdies τ-out l₃₀)
+          ∷ ‵ (froom (sliceTy τ-ref) l₂₉ 0) ∷ ‵ (fdies (sliceTy τ-ref) l₂₉) ∷ ‵ (froom τ-ref l₂₈ 0) ∷ ‵ (fdies τ-ref l₂₈)
+          ∷ ‵ (froom (sliceTy τ-ref) l₂₇ 0) ∷ ‵ (fdies (sliceTy τ-ref) l₂₇) ∷ ‵ (froom τ-ref l₂₆ 0) ∷ ‵ (fdies τ-ref l₂₆)
+          ∷ ‵ (froom (sliceTy τ-fr) l₂₅ 0) ∷ ‵ (fdies (sliceTy τ-fr) l₂₅)
           ∷ ‵ (froom τ-fr l₂₄ 0) ∷ ‵ (fdies τ-fr l₂₄) ∷ ‵ (froom (sliceTy τ-ref) l₂₃ 0) ∷ ‵ (fdies (sliceTy τ-ref) l₂₃)
           ∷ ‵ (froom τ-ref l₂₂ 0) ∷ ‵ (fdies τ-ref l₂₂) ∷ ‵ (froom (sliceTy τ-ref) l₂₁ 0) ∷ ‵ (fdies (sliceTy τ-ref) l₂₁)
           ∷ ‵ (froom τ-ref l₂₀ 0) ∷ ‵ (fdies τ-ref l₂₀) ∷ ‵ (froom τ-ix l₁₉ 0) ∷ ‵ (fdies τ-ix l₁₉) ∷ ‵ (froom tyBool l₁₈ 0)
@@ -553,12 +553,12 @@ module _ {M : Type 1} (𝓤 : URA M) (H : Heap 𝓤) (A : Atoms 𝓤) (W : Given
       -- with the test's outcome in its local
       abbrev Tested : Begin → List ℕ → List ℕ → List (Item 𝓤)
       Tested b cs₁ ss₁ = ‵ (flft κ₀ q₀) ∷ ‵ (flft κ₁ q₁) ∷ ‵ (flft κ₂ q₂) ∷ ‵ (flft κ₃ q₃) ∷ ‵ (flft κ₄ q₄) ∷ ‵ (flft κ₅ q₅)
-          ∷ ‵ OwnFile ∷ ‵ OwnArgs ∷ ‵ (OwnCells cs₁) ∷ ‵ (OwnStack ss₁) ∷ ‵ (OwnFrames fs) ∷ ‵ OwnOut ∷ ‵ (froom (sliceTy τ-fr) l₃₅ 0)
-          ∷ ‵ (fdies (sliceTy τ-fr) l₃₅) ∷ ‵ (froom τ-fr l₃₄ 0) ∷ ‵ (fdies τ-fr l₃₄) ∷ ‵ (froom tyUnit l₃₃ 0) ∷ ‵ (fdies tyUnit l₃₃)
-          ∷ ‵ (froom (sliceTy τ-out) l₃₂ 0) ∷ ‵ (fdies (sliceTy τ-out) l₃₂) ∷ ‵ (froom τ-out l₃₁ 0) ∷ ‵ (fdies τ-out l₃₁)
-          ∷ ‵ (froom (sliceTy τ-ref) l₃₀ 0) ∷ ‵ (fdies (sliceTy τ-ref) l₃₀) ∷ ‵ (froom τ-ref l₂₉ 0) ∷ ‵ (fdies τ-ref l₂₉)
-          ∷ ‵ (froom (sliceTy τ-ref) l₂₈ 0) ∷ ‵ (fdies (sliceTy τ-ref) l₂₈) ∷ ‵ (froom τ-ref l₂₇ 0) ∷ ‵ (fdies τ-ref l₂₇)
-          ∷ ‵ (froom τ-ix l₂₆ 0) ∷ ‵ (fdies τ-ix l₂₆) ∷ ‵ (froom (sliceTy τ-fr) l₂₅ 0) ∷ ‵ (fdies (sliceTy τ-fr) l₂₅)
+          ∷ ‵ OwnFile ∷ ‵ OwnArgs ∷ ‵ (OwnCells cs₁) ∷ ‵ (OwnStack ss₁) ∷ ‵ (OwnFrames fs) ∷ ‵ OwnOut ∷ ‵ (froom (sliceTy τ-fr) l₃₄ 0)
+          ∷ ‵ (fdies (sliceTy τ-fr) l₃₄) ∷ ‵ (froom τ-fr l₃₃ 0) ∷ ‵ (fdies τ-fr l₃₃) ∷ ‵ (froom tyUnit l₃₂ 0) ∷ ‵ (fdies tyUnit l₃₂)
+          ∷ ‵ (froom (sliceTy τ-out) l₃₁ 0) ∷ ‵ (fdies (sliceTy τ-out) l₃₁) ∷ ‵ (froom τ-out l₃₀ 0) ∷ ‵ (fdies τ-out l₃₀)
+          ∷ ‵ (froom (sliceTy τ-ref) l₂₉ 0) ∷ ‵ (fdies (sliceTy τ-ref) l₂₉) ∷ ‵ (froom τ-ref l₂₈ 0) ∷ ‵ (fdies τ-ref l₂₈)
+          ∷ ‵ (froom (sliceTy τ-ref) l₂₇ 0) ∷ ‵ (fdies (sliceTy τ-ref) l₂₇) ∷ ‵ (froom τ-ref l₂₆ 0) ∷ ‵ (fdies τ-ref l₂₆)
+          ∷ ‵ (froom (sliceTy τ-fr) l₂₅ 0) ∷ ‵ (fdies (sliceTy τ-fr) l₂₅)
           ∷ ‵ (froom τ-fr l₂₄ 0) ∷ ‵ (fdies τ-fr l₂₄) ∷ ‵ (froom (sliceTy τ-ref) l₂₃ 0) ∷ ‵ (fdies (sliceTy τ-ref) l₂₃)
           ∷ ‵ (froom τ-ref l₂₂ 0) ∷ ‵ (fdies τ-ref l₂₂) ∷ ‵ (froom (sliceTy τ-ref) l₂₁ 0) ∷ ‵ (fdies (sliceTy τ-ref) l₂₁)
           ∷ ‵ (froom τ-ref l₂₀ 0) ∷ ‵ (fdies τ-ref l₂₀) ∷ ‵ (froom τ-ix l₁₉ 0) ∷ ‵ (fdies τ-ix l₁₉)
@@ -583,11 +583,11 @@ module _ {M : Type 1} (𝓤 : URA M) (H : Heap 𝓤) (A : Atoms 𝓤) (W : Given
           → Prepares (file .now) entry (arguments .now) budget cs ss (length fs) cs₁ ss₁ b → b .begun ≡ false
           → Sq W (Mid b cs₁ ss₁) (runs C Λ En code-mir.t-9 (atRet En Post))
       refused b is-b cs₁ ss₁ len₁ len₂ prepares none =
-          assigns ! (of-opd ! (load ! (from ! (fld ! refl (stop !))) (look-in ! 64 (sub ! 1 refl (whole !))))) (from ! (stop !))
-          (init ! 82 refl (typed-answer (b .answer) _ (LL.owed Bg.the-type Bg′.the-laws b _ is-b .1 .0))) $
-          returns ! (look ! 82 refl) $ forget ! 64 refl $ forget ! 66 refl $ forget ! 68 refl $ forget ! 70 refl $ forget ! 72 refl $
-          forget ! 74 refl $ forget ! 76 refl $ forget ! 78 refl $ forget ! 80 refl $ forget ! 82 refl $ move ! (82 ∷ 83 ∷ []) $
-          free1 ! $ move ! (80 ∷ 81 ∷ []) $ free1 ! $ move ! (78 ∷ 79 ∷ []) $ free1 ! $ move ! (76 ∷ 77 ∷ []) $ free1 ! $
+          assigns ! (of-opd ! (load ! (from ! (fld ! refl (stop !))) (look-in ! 62 (sub ! 1 refl (whole !))))) (from ! (stop !))
+          (init ! 80 refl (typed-answer (b .answer) _ (LL.owed Bg.the-type Bg′.the-laws b _ is-b .1 .0))) $
+          returns ! (look ! 80 refl) $ forget ! 62 refl $ forget ! 64 refl $ forget ! 66 refl $ forget ! 68 refl $ forget ! 70 refl $
+          forget ! 72 refl $ forget ! 74 refl $ forget ! 76 refl $ forget ! 78 refl $ forget ! 80 refl $ move ! (80 ∷ 81 ∷ []) $
+          free1 ! $ move ! (78 ∷ 79 ∷ []) $ free1 ! $ move ! (76 ∷ 77 ∷ []) $ free1 ! $
           move ! (74 ∷ 75 ∷ []) $ free1 ! $ move ! (72 ∷ 73 ∷ []) $ free1 ! $ move ! (70 ∷ 71 ∷ []) $ free1 ! $ move ! (68 ∷ 69 ∷ []) $
           free1 ! $ move ! (66 ∷ 67 ∷ []) $ free1 ! $ move ! (64 ∷ 65 ∷ []) $ free1 ! $ move ! (62 ∷ 63 ∷ []) $ free1 ! $
           move ! (60 ∷ 61 ∷ []) $ free1 ! $ move ! (58 ∷ 59 ∷ []) $ free1 ! $ move ! (56 ∷ 57 ∷ []) $ free1 ! $ move ! (54 ∷ 55 ∷ []) $
@@ -611,51 +611,49 @@ module _ {M : Type 1} (𝓤 : URA M) (H : Heap 𝓤) (A : Atoms 𝓤) (W : Given
           → Sq W (Tested b cs₁ ss₁) (runs C Λ En (held code-mir.s-8) (anyQ (afterSeq 𝓤 H
           (Wp 𝓤 H C Λ En code-mir.t-9 (atReturn 𝓤 H En Post)) (atReturn 𝓤 H En Post))))
       goes-on b is-b cs₁ ss₁ len₁ len₂ prep =
-          assigns ! (of-opd ! (load ! (from ! (fld ! refl (stop !))) (look-in ! 64 (sub ! 2 refl (whole !))))) (from ! (stop !))
-          (init ! 62 refl (array-lawful 𝓤 H A W u32 (uint-lawful 𝓤 H A W w32) 128 .typed (b .index) _ (is-index b is-b) .0)) $
-          assigns ! (addr ! (from ! (stop !))) (from ! (stop !)) (init ! 44 refl (tt, tt)) $
-          assigns ! (addr ! (from ! (fld ! refl (hop ! (look-in ! 72 (sub ! 0 refl (whole !))) (stop !))))) (from ! (stop !))
-          (init ! 42 refl (tt, tt)) $
-          assigns ! (agg ! (and-then ! (load ! (from ! (stop !)) (look ! 42 refl))
-          (and-then ! (load ! (from ! (fld ! refl (stop !))) (look-in ! 72 (sub ! 1 refl (whole !)))) (no-more !)))) (from ! (stop !))
-          (init ! 40 refl (tt, (tt, (record { fits = room₂ .0 }, tt)))) $
+          assigns ! (of-opd ! (load ! (from ! (fld ! refl (stop !))) (look-in ! 62 (sub ! 2 refl (whole !))))) (from ! (stop !))
+          (init ! 60 refl (array-lawful 𝓤 H A W u32 (uint-lawful 𝓤 H A W w32) 64 .typed (b .index) _ (is-index b is-b) .0)) $
+          assigns ! (addr ! (from ! (stop !))) (from ! (stop !)) (init ! 42 refl (tt, tt)) $
           assigns ! (addr ! (from ! (fld ! refl (hop ! (look-in ! 70 (sub ! 0 refl (whole !))) (stop !))))) (from ! (stop !))
-          (init ! 38 refl (tt, tt)) $
-          assigns ! (agg ! (and-then ! (load ! (from ! (stop !)) (look ! 38 refl))
+          (init ! 40 refl (tt, tt)) $
+          assigns ! (agg ! (and-then ! (load ! (from ! (stop !)) (look ! 40 refl))
           (and-then ! (load ! (from ! (fld ! refl (stop !))) (look-in ! 70 (sub ! 1 refl (whole !)))) (no-more !)))) (from ! (stop !))
-          (init ! 36 refl (tt, (tt, (record { fits = room₃ .0 }, tt)))) $
+          (init ! 38 refl (tt, (tt, (record { fits = room₂ .0 }, tt)))) $
           assigns ! (addr ! (from ! (fld ! refl (hop ! (look-in ! 68 (sub ! 0 refl (whole !))) (stop !))))) (from ! (stop !))
-          (init ! 34 refl (tt, tt)) $
-          assigns ! (agg ! (and-then ! (load ! (from ! (stop !)) (look ! 34 refl))
+          (init ! 36 refl (tt, tt)) $
+          assigns ! (agg ! (and-then ! (load ! (from ! (stop !)) (look ! 36 refl))
           (and-then ! (load ! (from ! (fld ! refl (stop !))) (look-in ! 68 (sub ! 1 refl (whole !)))) (no-more !)))) (from ! (stop !))
-          (init ! 32 refl (tt, (tt, (record { fits = room₄ .0 }, tt)))) $
-          lft-new ! tt (λ ν₀. owned ! IX (Is IX) (array-makes 𝓤 H A W u32 (uint-makes 𝓤 H A W w32) 128) (b .index) _ (is-index b is-b) $
-          move ! (64 ∷ 0 ∷ []) $ use2 W (‵ (partAt IX fullShare (b .index) l₁₀ 0)) (local-part 𝓤 H A W u32 128 (b .index) _ l₁₀) $
+          (init ! 34 refl (tt, (tt, (record { fits = room₃ .0 }, tt)))) $
+          assigns ! (addr ! (from ! (fld ! refl (hop ! (look-in ! 66 (sub ! 0 refl (whole !))) (stop !))))) (from ! (stop !))
+          (init ! 32 refl (tt, tt)) $
+          assigns ! (agg ! (and-then ! (load ! (from ! (stop !)) (look ! 32 refl))
+          (and-then ! (load ! (from ! (fld ! refl (stop !))) (look-in ! 66 (sub ! 1 refl (whole !)))) (no-more !)))) (from ! (stop !))
+          (init ! 30 refl (tt, (tt, (record { fits = room₄ .0 }, tt)))) $
+          lft-new ! tt (λ ν₀. owned ! IX (Is IX) (array-makes 𝓤 H A W u32 (uint-makes 𝓤 H A W w32) 64) (b .index) _ (is-index b is-b) $
+          move ! (62 ∷ 0 ∷ []) $ use2 W (‵ (partAt IX fullShare (b .index) l₁₀ 0)) (local-part 𝓤 H A W u32 64 (b .index) _ l₁₀) $
           use1 W (later (some (λ (δ : GName). ‵ (OwnIndex b is-b cs₁ ss₁ l₁₀ prep ν₀ δ) ⊛ ‵
           (flent (ν₀ ∷ []) (partAt IX fullShare (b .index) l₁₀ 0))))) (lends-shr 𝓤 H A W IX (named 1) (ν₀ ∷ []) fullShare (b .index) l₁₀
           0) $ await ! tt $
           pick ! (λ δ₀. split ! $
-          use1 W (‵ (OwnIndex b is-b cs₁ ss₁ l₁₀ prep ν₀ δ₀) ⊛ ‵ (OwnIndex b is-b cs₁ ss₁ l₁₀ prep ν₀ δ₀))
-          (shr-copy 𝓤 H A W (named 1) (ν₀ ∷ []) IX .twice _ (vptr l₁₀ 0 ∷ [])) $
-          split ! $ move ! (10 ∷ []) $ use1 W (‵ OwnFile ⊛ ‵ OwnFile) (shr-slice-copy 𝓤 H A W (named 0) κ₀ u8 .twice file (s₀ ∷ [])) $
-          split ! $ lft-new ! tt (λ ν₁. move ! (14 ∷ 9 ∷ []) $
+          move ! (9 ∷ []) $ use1 W (‵ OwnFile ⊛ ‵ OwnFile) (shr-slice-copy 𝓤 H A W (named 0) κ₀ u8 .twice file (s₀ ∷ [])) $
+          split ! $ lft-new ! tt (λ ν₁. move ! (13 ∷ 8 ∷ []) $
           use2 W (later (some (λ (δ : GName). ‵ (LentCells ν₁ δ cs₁) ⊛ ‵ (LentAgain u16 κ₂ (ν₁ ∷ []) q₂ γ₂ b₂ o₂ δ cs₁))))
           (lends u16 κ₂ (ν₁ ∷ []) q₂ γ₂ b₂ o₂ 𝓤 H A W (named 2) (named 2) cs₁ (length cs) len₁) $ await ! tt $
-          pick ! (λ δ₁. split ! $ lft-new ! tt (λ ν₂. move ! (16 ∷ 12 ∷ []) $
+          pick ! (λ δ₁. split ! $ lft-new ! tt (λ ν₂. move ! (15 ∷ 11 ∷ []) $
           use2 W (later (some (λ (δ : GName). ‵ (LentStack ν₂ δ ss₁) ⊛ ‵ (LentAgain u16 κ₃ (ν₂ ∷ []) q₃ γ₃ b₃ o₃ δ ss₁))))
           (lends u16 κ₃ (ν₂ ∷ []) q₃ γ₃ b₃ o₃ 𝓤 H A W (named 3) (named 3) ss₁ (length ss) len₂) $ await ! tt $
-          pick ! (λ δ₂. split ! $ lft-new ! tt (λ ν₃. move ! (18 ∷ 15 ∷ []) $
+          pick ! (λ δ₂. split ! $ lft-new ! tt (λ ν₃. move ! (17 ∷ 14 ∷ []) $
           use2 W (later (some (λ (δ : GName). ‵ (LentFrames ν₃ δ fs) ⊛ ‵ (LentAgain FR κ₄ (ν₃ ∷ []) q₄ γ₄ b₄ o₄ δ fs))))
           (lends FR κ₄ (ν₃ ∷ []) q₄ γ₄ b₄ o₄ 𝓤 H A W (named 4) (named 4) fs (length fs) refl) $ await ! tt $
-          pick ! (λ δ₃. split ! $ move ! (15 ∷ 14 ∷ 8 ∷ 5 ∷ 2 ∷ 10 ∷ 12 ∷ 6 ∷ 3 ∷ 0 ∷ []) $ group ! 10 $
+          pick ! (λ δ₃. split ! $ move ! (14 ∷ 13 ∷ 8 ∷ 5 ∷ 2 ∷ 10 ∷ 11 ∷ 6 ∷ 3 ∷ 0 ∷ []) $ group ! 10 $
           use1 W (raw (Drive 𝓤 H A mem run .pre (to-drive b is-b cs₁ ss₁ l₁₀ prep ν₀ ν₁ ν₂ ν₃ δ₀ δ₁ δ₂ δ₃)))
           (goes-drive b is-b cs₁ ss₁ l₁₀ prep ν₀ ν₁ ν₂ ν₃ δ₀ δ₁ δ₂ δ₃) $
           calls-at ! fm (Drive 𝓤 H A mem run) known-drive (to-drive b is-b cs₁ ss₁ l₁₀ prep ν₀ ν₁ ν₂ ν₃ δ₀ δ₁ δ₂ δ₃)
-          (and-then ! (load ! (from ! (stop !)) (look ! 78 refl)) (and-then ! (load ! (from ! (stop !)) (look ! 43 refl))
-          (and-then ! (load ! (from ! (stop !)) (look ! 39 refl)) (and-then ! (load ! (from ! (stop !)) (look ! 35 refl))
-          (and-then ! (load ! (from ! (stop !)) (look ! 31 refl)) (and-then !
-          (load ! (from ! (fld ! refl (stop !))) (look-in ! 62 (sub ! 3 refl (whole !))))
-          (and-then ! (load ! (from ! (fld ! refl (stop !))) (look-in ! 62 (sub ! 4 refl (whole !)))) (no-more !)))))))) (λ u.
+          (and-then ! (load ! (from ! (stop !)) (look ! 75 refl)) (and-then ! (load ! (from ! (stop !)) (look ! 40 refl))
+          (and-then ! (load ! (from ! (stop !)) (look ! 36 refl)) (and-then ! (load ! (from ! (stop !)) (look ! 32 refl))
+          (and-then ! (load ! (from ! (stop !)) (look ! 28 refl)) (and-then !
+          (load ! (from ! (fld ! refl (stop !))) (look-in ! 59 (sub ! 3 refl (whole !))))
+          (and-then ! (load ! (from ! (fld ! refl (stop !))) (look-in ! 59 (sub ! 4 refl (whole !)))) (no-more !)))))))) (λ u.
           use1 W (later (some (λ (r : Registers). ((‵ (flft κ₀ q₀) ⊛ ‵ (flft (ν₀ ∷ []) fullShare) ⊛ ‵ (flft (ν₁ ∷ []) fullShare) ⊛ ‵
           (flft (ν₂ ∷ []) fullShare) ⊛ ‵ (flft (ν₃ ∷ []) fullShare) ⊛ ‵ ftrue) ⊛ ‵ (RR .own r (u ∷ []))) ⊛ raw
           (ensured 𝓤 H A drive.ended (drive.clauses 𝓤 H A mem run) (κ₀, (ν₀ ∷ [], (ν₁ ∷ [], (ν₂ ∷ [], (ν₃ ∷ [], tt)))))
@@ -672,8 +670,8 @@ module _ {M : Type 1} (𝓤 : URA M) (H : Heap 𝓤) (A : Atoms 𝓤) (W : Given
           fsplit ! $ drop ! $ fsplit ! $ drop ! $ fsplit ! $ fsplit ! $ move ! (1 ∷ []) $ feqL ! (λ len₃. move ! (1 ∷ []) $ fsplit ! $
           fsplit ! $ move ! (1 ∷ []) $ feqL ! (λ len₄. move ! (1 ∷ []) $ fsplit ! $ fsplit ! $ move ! (1 ∷ []) $ feqL ! (λ len₅.
           move ! (1 ∷ []) $ drop ! $ move ! (3 ∷ []) $ split ! $ move ! (1 ∷ []) $ peeks ! RR (Is RR) (shows 𝓤 H A RR) r (u ∷ []) (λ is.
-          land ! (from ! (stop !)) (init ! 63 refl (typed r u is)) $
-          rewrite ! 63 (λ (v : Val). ‵ (fat fullShare Rg′.mir l₁₁ 0 v)) (ap only (LL.tells Rg.the-type Rg′.the-laws r _ is)) refl $
+          land ! (from ! (stop !)) (init ! 60 refl (typed r u is)) $
+          rewrite ! 60 (λ (v : Val). ‵ (fat fullShare Rg′.mir l₁₁ 0 v)) (ap only (LL.tells Rg.the-type Rg′.the-laws r _ is)) refl $
           drop ! $ split ! $ move ! (1 ∷ []) $ split ! $ move ! (1 ∷ []) $ split ! $ move ! (1 ∷ []) $ split ! $ move ! (1 ∷ []) $
           split ! $ move ! (1 ∷ []) $ drop ! $ move ! (2 ∷ []) $ lft-end ! tt $ move ! (0 ∷ 10 ∷ 7 ∷ []) $
           use3 W (later (‵ (OwnCells (zs .1 .1 .0)) ⊛ ‵ (flft κ₂ q₂))) (back u16 κ₂ (ν₁ ∷ []) q₂ γ₂ b₂ o₂ 𝓤 H A W (named 2) (named 2) cs₁
@@ -685,42 +683,42 @@ module _ {M : Type 1} (𝓤 : URA M) (H : Heap 𝓤) (A : Atoms 𝓤) (W : Given
           use3 W (later (‵ (OwnFrames (zs .1 .1 .1 .1 .0)) ⊛ ‵ (flft κ₄ q₄)))
           (back FR κ₄ (ν₃ ∷ []) q₄ γ₄ b₄ o₄ 𝓤 H A W (named 4) (named 4) fs (length fs) refl δ₃ (zs .1 .1 .1 .1 .0) room₄ len₅) $
           await ! tt $
-          split ! $ assigns ! (addr ! (from ! (stop !))) (from ! (stop !)) (init ! 33 refl (tt, tt)) $
-          assigns ! (addr ! (from ! (fld ! refl (hop ! (look-in ! 74 (sub ! 0 refl (whole !))) (stop !))))) (from ! (stop !))
-          (init ! 31 refl (tt, tt)) $
-          assigns ! (agg ! (and-then ! (load ! (from ! (stop !)) (look ! 31 refl))
-          (and-then ! (load ! (from ! (fld ! refl (stop !))) (look-in ! 74 (sub ! 1 refl (whole !)))) (no-more !)))) (from ! (stop !))
-          (init ! 29 refl (tt, (tt, (record { fits = room₂ .0 }, tt)))) $
-          assigns ! (addr ! (from ! (fld ! refl (hop ! (look-in ! 72 (sub ! 0 refl (whole !))) (stop !))))) (from ! (stop !))
-          (init ! 27 refl (tt, tt)) $
-          assigns ! (agg ! (and-then ! (load ! (from ! (stop !)) (look ! 27 refl))
-          (and-then ! (load ! (from ! (fld ! refl (stop !))) (look-in ! 72 (sub ! 1 refl (whole !)))) (no-more !)))) (from ! (stop !))
-          (init ! 25 refl (tt, (tt, (record { fits = room₃ .0 }, tt)))) $
-          assigns ! (addr ! (from ! (fld ! refl (hop ! (look-in ! 68 (sub ! 0 refl (whole !))) (stop !))))) (from ! (stop !))
-          (init ! 23 refl (tt, tt)) $
-          assigns ! (agg ! (and-then ! (load ! (from ! (stop !)) (look ! 23 refl))
-          (and-then ! (load ! (from ! (fld ! refl (stop !))) (look-in ! 68 (sub ! 1 refl (whole !)))) (no-more !)))) (from ! (stop !))
-          (init ! 21 refl (tt, (tt, (record { fits = room₅ .0 }, tt)))) $
-          move ! (6 ∷ 5 ∷ 3 ∷ 12 ∷ 9 ∷ 4 ∷ 2 ∷ 14 ∷ []) $ group ! 8 $
+          split ! $ assigns ! (addr ! (from ! (fld ! refl (hop ! (look-in ! 71 (sub ! 0 refl (whole !))) (stop !))))) (from ! (stop !))
+          (init ! 30 refl (tt, tt)) $
+          assigns ! (agg ! (and-then ! (load ! (from ! (stop !)) (look ! 30 refl))
+          (and-then ! (load ! (from ! (fld ! refl (stop !))) (look-in ! 71 (sub ! 1 refl (whole !)))) (no-more !)))) (from ! (stop !))
+          (init ! 28 refl (tt, (tt, (record { fits = room₂ .0 }, tt)))) $
+          assigns ! (addr ! (from ! (fld ! refl (hop ! (look-in ! 69 (sub ! 0 refl (whole !))) (stop !))))) (from ! (stop !))
+          (init ! 26 refl (tt, tt)) $
+          assigns ! (agg ! (and-then ! (load ! (from ! (stop !)) (look ! 26 refl))
+          (and-then ! (load ! (from ! (fld ! refl (stop !))) (look-in ! 69 (sub ! 1 refl (whole !)))) (no-more !)))) (from ! (stop !))
+          (init ! 24 refl (tt, (tt, (record { fits = room₃ .0 }, tt)))) $
+          assigns ! (addr ! (from ! (fld ! refl (hop ! (look-in ! 65 (sub ! 0 refl (whole !))) (stop !))))) (from ! (stop !))
+          (init ! 22 refl (tt, tt)) $
+          assigns ! (agg ! (and-then ! (load ! (from ! (stop !)) (look ! 22 refl))
+          (and-then ! (load ! (from ! (fld ! refl (stop !))) (look-in ! 65 (sub ! 1 refl (whole !)))) (no-more !)))) (from ! (stop !))
+          (init ! 20 refl (tt, (tt, (record { fits = room₅ .0 }, tt)))) $
+          move ! (8 ∷ []) $ use1 W (‵ OwnFile ⊛ ‵ OwnFile) (shr-slice-copy 𝓤 H A W (named 0) κ₀ u8 .twice file (s₀ ∷ [])) $ split ! $
+          move ! (9 ∷ 7 ∷ 5 ∷ 12 ∷ 0 ∷ 6 ∷ 4 ∷ 14 ∷ []) $ group ! 8 $
           use1 W (raw (Finish 𝓤 H A mem run .pre (to-finish b is-b cs₁ ss₁ l₁₀ prep r (told-r r u is) (zs .1 .1 .0) (zs .1 .1 .1 .0)
-          (zs .1 .1 .1 .1 .0) e ν₀ δ₀))) (goes-finish b is-b cs₁ ss₁ l₁₀ prep r (told-r r u is) (zs .1 .1 .0) (zs .1 .1 .1 .0)
-          (zs .1 .1 .1 .1 .0) e ν₀ δ₀) $
+          (zs .1 .1 .1 .1 .0) e))) (goes-finish b is-b cs₁ ss₁ l₁₀ prep r (told-r r u is) (zs .1 .1 .0) (zs .1 .1 .1 .0)
+          (zs .1 .1 .1 .1 .0) e) $
           calls-at ! fm (Finish 𝓤 H A mem run) known-finish (to-finish b is-b cs₁ ss₁ l₁₀ prep r (told-r r u is) (zs .1 .1 .0)
-          (zs .1 .1 .1 .0) (zs .1 .1 .1 .1 .0) e ν₀ δ₀) (and-then ! (load ! (from ! (stop !)) (look ! 26 refl))
+          (zs .1 .1 .1 .0) (zs .1 .1 .1 .1 .0) e) (and-then ! (load ! (from ! (stop !)) (look ! 73 refl))
           (and-then ! (load ! (from ! (stop !)) (look ! 22 refl)) (and-then ! (load ! (from ! (stop !)) (look ! 18 refl))
-          (and-then ! (load ! (from ! (fld ! refl (stop !))) (look-in ! 59 (sub ! 3 refl (whole !))))
-          (and-then ! (load ! (from ! (stop !)) (look ! 56 refl)) (and-then ! (load ! (from ! (stop !)) (look ! 69 refl))
+          (and-then ! (load ! (from ! (fld ! refl (stop !))) (look-in ! 57 (sub ! 3 refl (whole !))))
+          (and-then ! (load ! (from ! (stop !)) (look ! 54 refl)) (and-then ! (load ! (from ! (stop !)) (look ! 67 refl))
           (and-then ! (load ! (from ! (stop !)) (look ! 14 refl)) (no-more !)))))))) (λ v.
-          use1 W (later (some (λ (t : Answer). ((‵ (flft (ν₀ ∷ []) fullShare) ⊛ ‵ (flft κ₂ q₂) ⊛ ‵ (flft κ₃ q₃) ⊛ ‵ (flft κ₅ q₅) ⊛ ‵
+          use1 W (later (some (λ (t : Answer). ((‵ (flft κ₀ q₀) ⊛ ‵ (flft κ₂ q₂) ⊛ ‵ (flft κ₃ q₃) ⊛ ‵ (flft κ₅ q₅) ⊛ ‵
           ftrue) ⊛ ‵ (AR .own t (v ∷ []))) ⊛ raw (ensured 𝓤 H A finish.ended (finish.clauses 𝓤 H A mem run)
-          (ν₀ ∷ [], (κ₂, (κ₃, (κ₅, tt)))) (
-            index b is-b cs₁ ss₁ l₁₀ prep δ₀,
+          (κ₀, (κ₂, (κ₃, (κ₅, tt)))) (
+            file,
             (cells γ₂ (zs .1 .1 .0), (stack γ₃ (zs .1 .1 .1 .0), (b .limits, (r, (budget, (out, tt)))))),
           ) tt t)))) (id⊢ 𝓤 _) $ await ! tt $
           pick ! (λ t. split ! $ move ! (1 ∷ []) $
           use1 W (some (λ (ys : Unit {0} × (List ℕ × (List ℕ × (Unit {0} × (Unit {0} × (Unit {0} × (List ℕ × Unit {0}))))))). ‵
-          (lasts finish.ended (ν₀ ∷ [], (κ₂, (κ₃, (κ₅, tt)))) (
-            index b is-b cs₁ ss₁ l₁₀ prep δ₀,
+          (lasts finish.ended (κ₀, (κ₂, (κ₃, (κ₅, tt)))) (
+            file,
             (cells γ₂ (zs .1 .1 .0), (stack γ₃ (zs .1 .1 .1 .0), (b .limits, (r, (budget, (out, tt)))))),
           ) ys) ⊛ raw
           (fact 𝓤 (Finishes b is-b cs₁ ss₁ l₁₀ prep r (told-r r u is) (zs .1 .1 .0) (zs .1 .1 .1 .0) (zs .1 .1 .1 .1 .0) e (ys .1 .0)
@@ -731,21 +729,21 @@ module _ {M : Type 1} (𝓤 : URA M) (H : Heap 𝓤) (A : Atoms 𝓤) (W : Given
           fsplit ! $ drop ! $ fsplit ! $ fsplit ! $ move ! (1 ∷ []) $ feqL ! (λ len₆. move ! (1 ∷ []) $ fsplit ! $ fsplit ! $
           move ! (1 ∷ []) $ feqL ! (λ len₇. move ! (1 ∷ []) $ fsplit ! $ drop ! $ fsplit ! $ drop ! $ fsplit ! $ drop ! $ fsplit ! $
           fsplit ! $ move ! (1 ∷ []) $ feqL ! (λ len₈. move ! (1 ∷ []) $ drop ! $ move ! (3 ∷ []) $ split ! $ move ! (1 ∷ []) $
-          peeks ! AR (Is AR) (shows 𝓤 H A AR) t (v ∷ []) (λ is-t. land ! (from ! (stop !)) (init ! 58 refl (typed-answer t v is-t)) $
+          peeks ! AR (Is AR) (shows 𝓤 H A AR) t (v ∷ []) (λ is-t. land ! (from ! (stop !)) (init ! 56 refl (typed-answer t v is-t)) $
           move ! (1 ∷ []) $ split ! $ move ! (1 ∷ []) $ split ! $ move ! (1 ∷ []) $ split ! $ move ! (1 ∷ []) $ split ! $
           move ! (1 ∷ []) $ drop ! $
-          assigns ! (addr ! (from ! (fld ! refl (hop ! (look-in ! 70 (sub ! 0 refl (whole !))) (stop !))))) (from ! (stop !))
+          assigns ! (addr ! (from ! (fld ! refl (hop ! (look-in ! 68 (sub ! 0 refl (whole !))) (stop !))))) (from ! (stop !))
           (init ! 17 refl (tt, tt)) $
           assigns ! (agg ! (and-then ! (load ! (from ! (stop !)) (look ! 17 refl))
-          (and-then ! (load ! (from ! (fld ! refl (stop !))) (look-in ! 70 (sub ! 1 refl (whole !)))) (no-more !)))) (from ! (stop !))
+          (and-then ! (load ! (from ! (fld ! refl (stop !))) (look-in ! 68 (sub ! 1 refl (whole !)))) (no-more !)))) (from ! (stop !))
           (init ! 15 refl (tt, (tt, (record { fits = room₄ .0 }, tt)))) $
-          move ! (9 ∷ 8 ∷ []) $
+          move ! (10 ∷ 9 ∷ []) $
           use2 W (raw (Clear 𝓤 H A mem run .pre (to-clear b is-b cs₁ ss₁ l₁₀ prep r (told-r r u is) (zs .1 .1 .0) (zs .1 .1 .1 .0)
           (zs .1 .1 .1 .1 .0) e))) (goes-clear b is-b cs₁ ss₁ l₁₀ prep r (told-r r u is) (zs .1 .1 .0) (zs .1 .1 .1 .0)
           (zs .1 .1 .1 .1 .0) e) $
           calls-at ! fm (Clear 𝓤 H A mem run) known-clear (to-clear b is-b cs₁ ss₁ l₁₀ prep r (told-r r u is) (zs .1 .1 .0)
           (zs .1 .1 .1 .0) (zs .1 .1 .1 .1 .0) e) (and-then ! (load ! (from ! (stop !)) (look ! 14 refl))
-          (and-then ! (load ! (from ! (fld ! refl (fld ! refl (stop !)))) (look-in ! 65 (sub ! 2 refl (sub ! 3 refl (whole !)))))
+          (and-then ! (load ! (from ! (fld ! refl (fld ! refl (stop !)))) (look-in ! 63 (sub ! 2 refl (sub ! 3 refl (whole !)))))
           (no-more !))) (λ x.
           use1 W (later (some (λ (_ : Unit {0}). ((‵ (flft κ₄ q₄) ⊛ ‵ ftrue) ⊛ ‵ (Nothing .own tt (x ∷ []))) ⊛ raw
           (ensured 𝓤 H A clear.ended (clear.clauses 𝓤 H A mem run) (κ₄, tt) (frames γ₄ (zs .1 .1 .1 .1 .0), (b .limits .frames, tt)) tt
@@ -759,26 +757,26 @@ module _ {M : Type 1} (𝓤 : URA M) (H : Heap 𝓤) (A : Atoms 𝓤) (W : Given
           move ! (1 ∷ []) $ feqL ! (λ len₉. move ! (1 ∷ []) $ drop ! $ move ! (1 ∷ []) $ split ! $ move ! (1 ∷ []) $
           peeks ! Nothing (Is Nothing) (shows 𝓤 H A Nothing) tt (x ∷ []) (λ is-unit.
           land ! (from ! (stop !)) (init ! 20 refl (nothing-lawful 𝓤 H A W .typed tt _ is-unit .0)) $ drop ! $ split ! $
-          move ! (1 ∷ []) $ drop ! $ move ! (5 ∷ []) $ lft-end ! tt $ move ! (0 ∷ 12 ∷ []) $ lent-back ! tt $
-          use1 W (‵ (froom (lone (IX .mir)) l₁₀ 0)) (part-room 𝓤 H A W u32 128 (b .index) l₁₀) $
-          assigns ! (of-opd ! (load ! (from ! (stop !)) (look ! 60 refl))) (from ! (stop !)) (init ! 83 refl (typed-answer t v is-t)) $
-          returns-within ! Post refl (look ! 83 refl) $ forget ! 14 refl $ forget ! 16 refl $ forget ! 18 refl $ forget ! 20 refl $
+          move ! (1 ∷ []) $ drop ! $ move ! (11 ∷ []) $ lft-end ! tt $ move ! (0 ∷ 12 ∷ []) $ lent-back ! tt $
+          use1 W (‵ (froom (lone (IX .mir)) l₁₀ 0)) (part-room 𝓤 H A W u32 64 (b .index) l₁₀) $
+          assigns ! (of-opd ! (load ! (from ! (stop !)) (look ! 58 refl))) (from ! (stop !)) (init ! 81 refl (typed-answer t v is-t)) $
+          returns-within ! Post refl (look ! 81 refl) $ forget ! 14 refl $ forget ! 16 refl $ forget ! 18 refl $ forget ! 20 refl $
           forget ! 22 refl $ forget ! 24 refl $ forget ! 26 refl $ forget ! 28 refl $ forget ! 30 refl $ forget ! 32 refl $
           forget ! 34 refl $ forget ! 36 refl $ forget ! 38 refl $ forget ! 40 refl $ forget ! 42 refl $ forget ! 44 refl $
-          forget ! 46 refl $ forget ! 48 refl $ forget ! 60 refl $ forget ! 62 refl $ forget ! 65 refl $ forget ! 67 refl $
+          forget ! 46 refl $ forget ! 58 refl $ forget ! 60 refl $ forget ! 63 refl $ forget ! 65 refl $ forget ! 67 refl $
           forget ! 69 refl $ forget ! 71 refl $ forget ! 73 refl $ forget ! 75 refl $ forget ! 77 refl $ forget ! 79 refl $
-          forget ! 81 refl $ forget ! 83 refl $ move ! (83 ∷ 84 ∷ []) $ free1 ! $ move ! (81 ∷ 82 ∷ []) $ free1 ! $
-          move ! (79 ∷ 80 ∷ []) $ free1 ! $ move ! (77 ∷ 78 ∷ []) $ free1 ! $ move ! (75 ∷ 76 ∷ []) $ free1 ! $ move ! (73 ∷ 74 ∷ []) $
-          free1 ! $ move ! (71 ∷ 72 ∷ []) $ free1 ! $ move ! (69 ∷ 70 ∷ []) $ free1 ! $ move ! (67 ∷ 68 ∷ []) $ free1 ! $
-          move ! (65 ∷ 66 ∷ []) $ free1 ! $ move ! (0 ∷ 64 ∷ []) $ free1 ! $ move ! (61 ∷ 62 ∷ []) $ free1 ! $ move ! (59 ∷ 60 ∷ []) $
-          free1 ! $ move ! (57 ∷ 58 ∷ []) $ free1 ! $ move ! (55 ∷ 56 ∷ []) $ free1 ! $ move ! (53 ∷ 54 ∷ []) $ free1 ! $
-          move ! (51 ∷ 52 ∷ []) $ free1 ! $ move ! (49 ∷ 50 ∷ []) $ free1 ! $ move ! (47 ∷ 48 ∷ []) $ free1 ! $ move ! (45 ∷ 46 ∷ []) $
-          free1 ! $ move ! (43 ∷ 44 ∷ []) $ free1 ! $ move ! (41 ∷ 42 ∷ []) $ free1 ! $ move ! (39 ∷ 40 ∷ []) $ free1 ! $
-          move ! (37 ∷ 38 ∷ []) $ free1 ! $ move ! (35 ∷ 36 ∷ []) $ free1 ! $ move ! (33 ∷ 34 ∷ []) $ free1 ! $ move ! (31 ∷ 32 ∷ []) $
-          free1 ! $ move ! (29 ∷ 30 ∷ []) $ free1 ! $ move ! (27 ∷ 28 ∷ []) $ free1 ! $ move ! (25 ∷ 26 ∷ []) $ free1 ! $
-          move ! (23 ∷ 24 ∷ []) $ free1 ! $ move ! (21 ∷ 22 ∷ []) $ free1 ! $ move ! (19 ∷ 20 ∷ []) $ free1 ! $ move ! (17 ∷ 18 ∷ []) $
-          free1 ! $ move ! (15 ∷ 16 ∷ []) $ free1 ! $ move ! (13 ∷ 14 ∷ []) $ free1 ! $ free0 ! $
-          keep ! (9 ∷ 11 ∷ 4 ∷ 3 ∷ 0 ∷ 2 ∷ 10 ∷ 12 ∷ 8 ∷ 7 ∷ 1 ∷ 6 ∷ 5 ∷ []) $
+          forget ! 81 refl $ move ! (81 ∷ 82 ∷ []) $ free1 ! $ move ! (79 ∷ 80 ∷ []) $ free1 ! $ move ! (77 ∷ 78 ∷ []) $ free1 ! $
+          move ! (75 ∷ 76 ∷ []) $ free1 ! $ move ! (73 ∷ 74 ∷ []) $ free1 ! $ move ! (71 ∷ 72 ∷ []) $ free1 ! $ move ! (69 ∷ 70 ∷ []) $
+          free1 ! $ move ! (67 ∷ 68 ∷ []) $ free1 ! $ move ! (65 ∷ 66 ∷ []) $ free1 ! $ move ! (63 ∷ 64 ∷ []) $ free1 ! $
+          move ! (0 ∷ 62 ∷ []) $ free1 ! $ move ! (59 ∷ 60 ∷ []) $ free1 ! $ move ! (57 ∷ 58 ∷ []) $ free1 ! $ move ! (55 ∷ 56 ∷ []) $
+          free1 ! $ move ! (53 ∷ 54 ∷ []) $ free1 ! $ move ! (51 ∷ 52 ∷ []) $ free1 ! $ move ! (49 ∷ 50 ∷ []) $ free1 ! $
+          move ! (47 ∷ 48 ∷ []) $ free1 ! $ move ! (45 ∷ 46 ∷ []) $ free1 ! $ move ! (43 ∷ 44 ∷ []) $ free1 ! $ move ! (41 ∷ 42 ∷ []) $
+          free1 ! $ move ! (39 ∷ 40 ∷ []) $ free1 ! $ move ! (37 ∷ 38 ∷ []) $ free1 ! $ move ! (35 ∷ 36 ∷ []) $ free1 ! $
+          move ! (33 ∷ 34 ∷ []) $ free1 ! $ move ! (31 ∷ 32 ∷ []) $ free1 ! $ move ! (29 ∷ 30 ∷ []) $ free1 ! $ move ! (27 ∷ 28 ∷ []) $
+          free1 ! $ move ! (25 ∷ 26 ∷ []) $ free1 ! $ move ! (23 ∷ 24 ∷ []) $ free1 ! $ move ! (21 ∷ 22 ∷ []) $ free1 ! $
+          move ! (19 ∷ 20 ∷ []) $ free1 ! $ move ! (17 ∷ 18 ∷ []) $ free1 ! $ move ! (15 ∷ 16 ∷ []) $ free1 ! $ move ! (13 ∷ 14 ∷ []) $
+          free1 ! $ free0 ! $
+          keep ! (5 ∷ 11 ∷ 4 ∷ 3 ∷ 0 ∷ 2 ∷ 10 ∷ 12 ∷ 9 ∷ 8 ∷ 1 ∷ 7 ∷ 6 ∷ []) $
           by ! (exits t v (ys .1 .0) (ys .1 .1 .0) (ws .0) (ys .1 .1 .1 .1 .1 .1 .0)
           (ran b is-b cs₁ ss₁ l₁₀ prep r (told-r r u is) (zs .1 .1 .0) (zs .1 .1 .1 .0) (zs .1 .1 .1 .1 .0) e (ws .0) e₂ e₃)
           (len₆ ∙ len₃ ∙ len₁) (len₇ ∙ len₄ ∙ len₂) (len₉ ∙ len₅) len₈)))))))))))))))))))))))))))))))
@@ -787,27 +785,27 @@ module _ {M : Type 1} (𝓤 : URA M) (H : Heap 𝓤) (A : Atoms 𝓤) (W : Given
           → Prepares (file .now) entry (arguments .now) budget cs ss (length fs) cs₁ ss₁ b
           → Sq W (Mid b cs₁ ss₁) (runs C Λ En code-mir.t-7 (atRet En Post))
       tests b is-b cs₁ ss₁ len₁ len₂ prepares =
-          assigns ! (of-opd ! (load ! (from ! (fld ! refl (stop !))) (look-in ! 64 (sub ! 0 refl (whole !))))) (from ! (stop !))
-          (init ! 46 refl (tt, tt)) $
-          first ! $ branches ! (load ! (from ! (stop !)) (look ! 46 refl))
+          assigns ! (of-opd ! (load ! (from ! (fld ! refl (stop !))) (look-in ! 62 (sub ! 0 refl (whole !))))) (from ! (stop !))
+          (init ! 44 refl (tt, tt)) $
+          first ! $ branches ! (load ! (from ! (stop !)) (look ! 44 refl))
           (λ begun. goes-on b is-b cs₁ ss₁ len₁ len₂ (prepares .begins (is-true (b .begun) begun)))
-          (λ other. skips ! $ forget ! 46 refl $ exec ! C Λ En code-mir.t-9 (atRet En Post) $
+          (λ other. skips ! $ forget ! 44 refl $ exec ! C Λ En code-mir.t-9 (atRet En Post) $
           refused b is-b cs₁ ss₁ len₁ len₂ prepares (is-false (b .begun) other))
 
       starts : Sq W Before (runs C Λ En code-mir.t-1 (atRet En Post))
       starts =
-          assigns ! (addr ! (from ! (fld ! refl (hop ! (look-in ! 72 (sub ! 0 refl (whole !))) (stop !))))) (from ! (stop !))
-          (init ! 56 refl (tt, tt)) $
-          assigns ! (agg ! (and-then ! (load ! (from ! (stop !)) (look ! 56 refl))
-          (and-then ! (load ! (from ! (fld ! refl (stop !))) (look-in ! 72 (sub ! 1 refl (whole !)))) (no-more !)))) (from ! (stop !))
-          (init ! 54 refl (tt, (tt, (record { fits = room₂ .0 }, tt)))) $
           assigns ! (addr ! (from ! (fld ! refl (hop ! (look-in ! 70 (sub ! 0 refl (whole !))) (stop !))))) (from ! (stop !))
-          (init ! 52 refl (tt, tt)) $
-          assigns ! (agg ! (and-then ! (load ! (from ! (stop !)) (look ! 52 refl))
+          (init ! 54 refl (tt, tt)) $
+          assigns ! (agg ! (and-then ! (load ! (from ! (stop !)) (look ! 54 refl))
           (and-then ! (load ! (from ! (fld ! refl (stop !))) (look-in ! 70 (sub ! 1 refl (whole !)))) (no-more !)))) (from ! (stop !))
-          (init ! 50 refl (tt, (tt, (record { fits = room₃ .0 }, tt)))) $
-          assigns ! (of-opd ! (load ! (from ! (fld ! refl (stop !))) (look-in ! 68 (sub ! 1 refl (whole !))))) (from ! (stop !))
-          (init ! 48 refl (tt, record { fits = room₄ .0 })) $
+          (init ! 52 refl (tt, (tt, (record { fits = room₂ .0 }, tt)))) $
+          assigns ! (addr ! (from ! (fld ! refl (hop ! (look-in ! 68 (sub ! 0 refl (whole !))) (stop !))))) (from ! (stop !))
+          (init ! 50 refl (tt, tt)) $
+          assigns ! (agg ! (and-then ! (load ! (from ! (stop !)) (look ! 50 refl))
+          (and-then ! (load ! (from ! (fld ! refl (stop !))) (look-in ! 68 (sub ! 1 refl (whole !)))) (no-more !)))) (from ! (stop !))
+          (init ! 48 refl (tt, (tt, (record { fits = room₃ .0 }, tt)))) $
+          assigns ! (of-opd ! (load ! (from ! (fld ! refl (stop !))) (look-in ! 66 (sub ! 1 refl (whole !))))) (from ! (stop !))
+          (init ! 46 refl (tt, record { fits = room₄ .0 })) $
           move ! (6 ∷ []) $ use1 W (‵ OwnFile ⊛ ‵ OwnFile) (shr-slice-copy 𝓤 H A W (named 0) κ₀ u8 .twice file (s₀ ∷ [])) $ split ! $
           move ! (8 ∷ []) $ use1 W (‵ OwnArgs ⊛ ‵ OwnArgs) (shr-slice-copy 𝓤 H A W (named 1) κ₁ u8 .twice arguments (s₁ ∷ [])) $
           split ! $ lft-new ! tt (λ ν₁. move ! (11 ∷ 7 ∷ []) $
@@ -819,10 +817,10 @@ module _ {M : Type 1} (𝓤 : URA M) (H : Heap 𝓤) (A : Atoms 𝓤) (W : Given
           pick ! (λ δ₂. split ! $ move ! (10 ∷ 11 ∷ 5 ∷ 2 ∷ 9 ∷ 7 ∷ 3 ∷ 0 ∷ []) $ group ! 8 $
           use1 W (raw (Begins 𝓤 H A mem run .pre (to-begin ν₁ ν₂ δ₁ δ₂))) (goes-begin ν₁ ν₂ δ₁ δ₂ (refl, room₄ .0)) $
           calls-at ! fm (Begins 𝓤 H A mem run) known-begin (to-begin ν₁ ν₂ δ₁ δ₂)
-          (and-then ! (load ! (from ! (stop !)) (look ! 77 refl)) (and-then ! (load ! (from ! (stop !)) (look ! 75 refl))
-          (and-then ! (load ! (from ! (stop !)) (look ! 73 refl)) (and-then ! (load ! (from ! (stop !)) (look ! 71 refl))
-          (and-then ! (load ! (from ! (stop !)) (look ! 51 refl)) (and-then ! (load ! (from ! (stop !)) (look ! 47 refl))
-          (and-then ! (load ! (from ! (stop !)) (look ! 45 refl)) (no-more !)))))))) (λ u.
+          (and-then ! (load ! (from ! (stop !)) (look ! 75 refl)) (and-then ! (load ! (from ! (stop !)) (look ! 73 refl))
+          (and-then ! (load ! (from ! (stop !)) (look ! 71 refl)) (and-then ! (load ! (from ! (stop !)) (look ! 69 refl))
+          (and-then ! (load ! (from ! (stop !)) (look ! 49 refl)) (and-then ! (load ! (from ! (stop !)) (look ! 45 refl))
+          (and-then ! (load ! (from ! (stop !)) (look ! 43 refl)) (no-more !)))))))) (λ u.
           use1 W (later (some (λ (b : Begin). ((‵ (flft κ₀ q₀) ⊛ ‵ (flft κ₁ q₁) ⊛ ‵ (flft (ν₁ ∷ []) fullShare) ⊛ ‵
           (flft (ν₂ ∷ []) fullShare) ⊛ ‵ ftrue) ⊛ ‵ (BR .own b (u ∷ []))) ⊛ raw
           (ensured 𝓤 H A begins.ended (begins.clauses 𝓤 H A mem run) (κ₀, (κ₁, (ν₁ ∷ [], (ν₂ ∷ [], tt))))
@@ -844,8 +842,8 @@ module _ {M : Type 1} (𝓤 : URA M) (H : Heap 𝓤) (A : Atoms 𝓤) (W : Given
           fsplit ! $ drop ! $ fsplit ! $ drop ! $ fsplit ! $ drop ! $ fsplit ! $ drop ! $ fsplit ! $ fsplit ! $ move ! (1 ∷ []) $
           feqL ! (λ len₁. move ! (1 ∷ []) $ fsplit ! $ fsplit ! $ move ! (1 ∷ []) $ feqL ! (λ len₂. move ! (1 ∷ []) $ drop ! $
           move ! (2 ∷ []) $ split ! $ move ! (1 ∷ []) $ peeks ! BR (Is BR) (shows 𝓤 H A BR) b (u ∷ []) (λ is.
-          land ! (from ! (stop !)) (init ! 64 refl (typed-begin b u is)) $
-          rewrite ! 64 (λ (v : Val). ‵ (fat fullShare Bg′.mir l₉ 0 v)) (ap only (LL.tells Bg.the-type Bg′.the-laws b _ is)) refl $
+          land ! (from ! (stop !)) (init ! 62 refl (typed-begin b u is)) $
+          rewrite ! 62 (λ (v : Val). ‵ (fat fullShare Bg′.mir l₉ 0 v)) (ap only (LL.tells Bg.the-type Bg′.the-laws b _ is)) refl $
           drop ! $ split ! $ move ! (1 ∷ []) $ split ! $ move ! (1 ∷ []) $ split ! $ move ! (1 ∷ []) $ split ! $ move ! (1 ∷ []) $
           drop ! $ move ! (1 ∷ []) $ lft-end ! tt $ move ! (0 ∷ 7 ∷ 5 ∷ []) $
           use3 W (later (‵ (OwnCells (zs .1 .1 .1 .1 .0)) ⊛ ‵ (flft κ₂ q₂)))
@@ -855,11 +853,11 @@ module _ {M : Type 1} (𝓤 : URA M) (H : Heap 𝓤) (A : Atoms 𝓤) (W : Given
           use3 W (later (‵ (OwnStack (zs .1 .1 .1 .1 .1 .0)) ⊛ ‵ (flft κ₃ q₃)))
           (back u16 κ₃ (ν₂ ∷ []) q₃ γ₃ b₃ o₃ 𝓤 H A W (named 3) (named 3) ss (length ss) refl δ₂ (zs .1 .1 .1 .1 .1 .0) room₃ len₂) $
           await ! tt $
-          split ! $ forget ! 48 refl $ forget ! 50 refl $ forget ! 52 refl $ forget ! 54 refl $ forget ! 56 refl $
+          split ! $ forget ! 46 refl $ forget ! 48 refl $ forget ! 50 refl $ forget ! 52 refl $ forget ! 54 refl $
           keep ! (5 ∷ 4 ∷ 3 ∷ 1 ∷ 8 ∷ 9 ∷ 7 ∷ 6 ∷ 2 ∷ 0 ∷ 10 ∷ 11 ∷ 12 ∷ 13 ∷ 14 ∷ 15 ∷ 16 ∷ 17 ∷ 18 ∷ 19 ∷ 20 ∷ 21 ∷ 22 ∷ 23 ∷ 24 ∷ 25 ∷
           26 ∷ 27 ∷ 28 ∷ 29 ∷ 30 ∷ 31 ∷ 32 ∷ 33 ∷ 34 ∷ 35 ∷ 36 ∷ 37 ∷ 38 ∷ 39 ∷ 40 ∷ 41 ∷ 42 ∷ 43 ∷ 44 ∷ 45 ∷ 46 ∷ 47 ∷ 48 ∷ 49 ∷ 50 ∷ 51
           ∷ 52 ∷ 53 ∷ 54 ∷ 55 ∷ 56 ∷ 57 ∷ 58 ∷ 59 ∷ 60 ∷ 61 ∷ 62 ∷ 63 ∷ 64 ∷ 65 ∷ 66 ∷ 67 ∷ 68 ∷ 69 ∷ 70 ∷ 71 ∷ 72 ∷ 73 ∷ 74 ∷ 75 ∷ 76 ∷
-          77 ∷ 78 ∷ 79 ∷ 80 ∷ 81 ∷ 82 ∷ 83 ∷ []) $
+          77 ∷ 78 ∷ 79 ∷ 80 ∷ 81 ∷ []) $
           tests b (told-b b u is) (zs .1 .1 .1 .1 .0) (zs .1 .1 .1 .1 .1 .0) len₁ len₂ e)))))))))))
 
     walk : ent 𝓤 (onEntry 𝓤 H A own.signature κs (q₀, (q₁, (q₂, (q₃, (q₄, (q₅, tt)))))) a vals)
@@ -872,26 +870,26 @@ module _ {M : Type 1} (𝓤 : URA M) (H : Heap 𝓤) (A : Atoms 𝓤) (W : Given
         alloc1 ! (λ l₀. alloc1 ! (λ l₁. alloc1 ! (λ l₂. alloc1 ! (λ l₃. alloc1 ! (λ l₄. alloc1 ! (λ l₅. alloc1 ! (λ l₆. alloc1 ! (λ l₇.
         alloc1 ! (λ l₈. alloc1 ! (λ l₉. alloc1 ! (λ l₁₀. alloc1 ! (λ l₁₁. alloc1 ! (λ l₁₂. alloc1 ! (λ l₁₃. alloc1 ! (λ l₁₄.
         alloc1 ! (λ l₁₅. alloc1 ! (λ l₁₆. alloc1 ! (λ l₁₇. alloc1 ! (λ l₁₈. alloc1 ! (λ l₁₉. alloc1 ! (λ l₂₀. alloc1 ! (λ l₂₁.
-        alloc1 ! (λ l₂₂. alloc1 ! (λ l₂₃. alloc1 ! (λ l₂₄. alloc1 ! (λ l₂₅. alloc1 ! (λ l₂₆. alloc1 ! (λ l₂₇. alloc1 ! (λ l₂₈.
-        alloc1 ! (λ l₂₉. alloc1 ! (λ l₃₀. alloc1 ! (λ l₃₁. alloc1 ! (λ l₃₂. alloc1 ! (λ l₃₃. alloc1 ! (λ l₃₄. alloc1 ! (λ l₃₅.
-        alloc0 ! $ params1 ! $ pass1 ! (init ! 68 refl (tt, (tt, (record { fits = room₀ .0 }, tt)))) $
-        pass1 ! (init ! 66 refl (tt, record { fits = is-entry .1 })) $
-        pass1 ! (init ! 64 refl (tt, (tt, (record { fits = room₁ .0 }, tt)))) $
-        pass1 ! (init ! 62 refl (tt, record { fits = is-budget .1 })) $
-        pass1 ! (init ! 60 refl (tt, (tt, (record { fits = room₂ .0 }, tt)))) $
-        pass1 ! (init ! 58 refl (tt, (tt, (record { fits = room₃ .0 }, tt)))) $
-        pass1 ! (init ! 56 refl (tt, (tt, (record { fits = room₄ .0 }, tt)))) $
-        pass1 ! (init ! 54 refl (tt, (tt, (record { fits = room₅ .0 }, tt)))) $ pass0 ! $ move ! (73 ∷ []) $ fsplit ! $
+        alloc1 ! (λ l₂₂. alloc1 ! (λ l₂₃. alloc1 ! (λ l₂₄. alloc1 ! (λ l₂₅. alloc1 ! (λ l₂₆. alloc1 ! (λ l₂₇.
+        alloc1 ! (λ l₂₈. alloc1 ! (λ l₂₉. alloc1 ! (λ l₃₀. alloc1 ! (λ l₃₁. alloc1 ! (λ l₃₂. alloc1 ! (λ l₃₃. alloc1 ! (λ l₃₄.
+        alloc0 ! $ params1 ! $ pass1 ! (init ! 66 refl (tt, (tt, (record { fits = room₀ .0 }, tt)))) $
+        pass1 ! (init ! 64 refl (tt, record { fits = is-entry .1 })) $
+        pass1 ! (init ! 62 refl (tt, (tt, (record { fits = room₁ .0 }, tt)))) $
+        pass1 ! (init ! 60 refl (tt, record { fits = is-budget .1 })) $
+        pass1 ! (init ! 58 refl (tt, (tt, (record { fits = room₂ .0 }, tt)))) $
+        pass1 ! (init ! 56 refl (tt, (tt, (record { fits = room₃ .0 }, tt)))) $
+        pass1 ! (init ! 54 refl (tt, (tt, (record { fits = room₄ .0 }, tt)))) $
+        pass1 ! (init ! 52 refl (tt, (tt, (record { fits = room₅ .0 }, tt)))) $ pass0 ! $ move ! (71 ∷ []) $ fsplit ! $
         move ! (1 ∷ []) $ fsplit ! $ move ! (1 ∷ []) $ fsplit ! $ move ! (1 ∷ []) $ fsplit ! $ move ! (1 ∷ []) $ fsplit ! $
-        move ! (1 ∷ []) $ fsplit ! $ move ! (1 ∷ []) $ fsplit ! $ move ! (1 ∷ []) $ fsplit ! $ move ! (81 ∷ []) $ split ! $
+        move ! (1 ∷ []) $ fsplit ! $ move ! (1 ∷ []) $ fsplit ! $ move ! (1 ∷ []) $ fsplit ! $ move ! (79 ∷ []) $ split ! $
         move ! (1 ∷ []) $ split ! $ move ! (1 ∷ []) $ split ! $ move ! (1 ∷ []) $ split ! $ move ! (1 ∷ []) $ split ! $
         move ! (1 ∷ []) $ split ! $ move ! (1 ∷ []) $ drop ! $
         keep ! (5 ∷ 4 ∷ 3 ∷ 2 ∷ 1 ∷ 0 ∷ 14 ∷ 12 ∷ 10 ∷ 9 ∷ 8 ∷ 6 ∷ 15 ∷ 16 ∷ 17 ∷ 18 ∷ 19 ∷ 20 ∷ 21 ∷ 22 ∷ 23 ∷ 24 ∷ 25 ∷ 26 ∷ 27 ∷ 28 ∷
         29 ∷ 30 ∷ 31 ∷ 32 ∷ 33 ∷ 34 ∷ 35 ∷ 36 ∷ 37 ∷ 38 ∷ 39 ∷ 40 ∷ 41 ∷ 42 ∷ 43 ∷ 44 ∷ 45 ∷ 46 ∷ 47 ∷ 48 ∷ 49 ∷ 50 ∷ 51 ∷ 52 ∷ 53 ∷ 54 ∷
         55 ∷ 56 ∷ 57 ∷ 58 ∷ 59 ∷ 60 ∷ 61 ∷ 62 ∷ 63 ∷ 64 ∷ 65 ∷ 66 ∷ 67 ∷ 68 ∷ 69 ∷ 70 ∷ 71 ∷ 72 ∷ 73 ∷ 74 ∷ 75 ∷ 76 ∷ 77 ∷ 78 ∷ 79 ∷ 80 ∷
-        81 ∷ 82 ∷ 83 ∷ 84 ∷ 85 ∷ 86 ∷ []) $
-        starts l₀ l₁ l₂ l₃ l₄ l₅ l₆ l₇ l₈ l₉ l₁₀ l₁₁ l₁₂ l₁₃ l₁₄ l₁₅ l₁₆ l₁₇ l₁₈ l₁₉ l₂₀ l₂₁ l₂₂ l₂₃ l₂₄ l₂₅ l₂₆ l₂₇ l₂₈ l₂₉ l₃₀ l₃₁ l₃₂
-        l₃₃ l₃₄ l₃₅))))))))))))))))))))))))))))))))))))
+        81 ∷ 82 ∷ 83 ∷ 84 ∷ []) $
+        starts l₀ l₁ l₂ l₃ l₄ l₅ l₆ l₇ l₈ l₉ l₁₀ l₁₁ l₁₂ l₁₃ l₁₄ l₁₅ l₁₆ l₁₇ l₁₈ l₁₉ l₂₀ l₂₁ l₂₂ l₂₃ l₂₄ l₂₅ l₂₆ l₂₇ l₂₈ l₂₉ l₃₀ l₃₁
+        l₃₂ l₃₃ l₃₄)))))))))))))))))))))))))))))))))))
 
 module _ {M : Type 1} (𝓤 : URA M) (H : Heap 𝓤) (A : Atoms 𝓤) (W : Given 𝓤 H A) (mem : Memory → SProp 𝓤) (run : Routine → Fun 𝓤)
     (𝓣 : Tables 𝓤 H) (known-begin : Triple 𝓤 (𝓣 .C #begins) (Begins 𝓤 H A mem run))

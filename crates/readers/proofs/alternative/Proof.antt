@@ -1,19 +1,65 @@
--- `alternative` meets its contract: it is the definition, byte by byte.
+-- The record where it ends in its block, and where it goes on behind it.
+use mathlib.Core.Path.{refl, _∙_}
+use native.Mathlib.Omega.{arith}
+use Rattle.rules.proofs.SameLaws.{alternative-same}
+use Rattle.readers.proofs.NearLaws.{reaches, same}
 use borrow.Author.Needs.{needs}
 use Rattle.readers.proofs.alternative.Statement.{statement}
 use Rattle.readers.proofs.alternative.Tie as tie
 
-four-requires : tie.Need-four-requires
-four-requires c κs = search needs
+left-in-block-requires : tie.Need-left-in-block-requires
+left-in-block-requires c κs = search needs
 
-add-word : tie.Need-add-word
-add-word c = search needs
+place-of-requires : tie.Need-place-of-requires
+place-of-requires c κs = search needs
 
-word-requires : tie.Need-word-requires
-word-requires c κs = search needs
+alternative-from-requires : tie.Need-alternative-from-requires
+alternative-from-requires c κs =
+    let at-if1 = c .before in
+    let at-left = at-if1 .before in
+    let start = at-left .before .before in
+    reaches (start .pre .0) (start .args .at) 6 (start .pre .1) (omega arith) (omega arith) (c .place-of .ensures)
+    (at-left .left-in-block .ensures) (λ l. omega arith)
 
 returns : tie.Need-returns
-returns c = cc
+returns c =
+    let at-place = c .before in
+    let at-if1 = at-place .before in
+    let at-left = at-if1 .before in
+    let start = at-left .before .before in
+    c .alternative-from .ensures
+    ∙ alternative-same (same (start .pre .0) (start .args .at) 6 (start .pre .1) (omega arith) (omega arith)
+    (at-place .place-of .ensures) (at-left .left-in-block .ensures) (at-if1 .if1 .taken) (λ l. absurd (omega arith)))
+
+place-of-requires-2 : tie.Need-place-of-requires-2
+place-of-requires-2 c κs = search needs
+
+alternative-from-requires-2 : tie.Need-alternative-from-requires-2
+alternative-from-requires-2 c κs =
+    let at-if1 = c .before in
+    let at-left = at-if1 .before in
+    let start = at-left .before .before in
+    reaches (start .pre .0) (start .args .at) 6 (start .pre .1) (omega arith) (omega arith) (c .place-of2 .ensures)
+    (at-left .left-in-block .ensures) (λ l. omega arith)
+
+returns-2 : tie.Need-returns-2
+returns-2 c =
+    let at-place = c .before in
+    let at-if1 = at-place .before in
+    let at-left = at-if1 .before in
+    let start = at-left .before .before in
+    c .alternative-from2 .ensures
+    ∙ alternative-same (same (start .pre .0) (start .args .at) 6 (start .pre .1) (omega arith) (omega arith)
+    (at-place .place-of2 .ensures) (at-left .left-in-block .ensures) (omega arith) (λ _. refl))
 
 pub alternative-spec : {M : Type 1} → statement M
-alternative-spec = tie.close (tie.spec four-requires add-word word-requires returns)
+alternative-spec =
+    tie.close
+    (tie.spec
+    left-in-block-requires
+    place-of-requires
+    alternative-from-requires
+    returns
+    place-of-requires-2
+    alternative-from-requires-2
+    returns-2)

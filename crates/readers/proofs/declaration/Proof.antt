@@ -1,45 +1,65 @@
--- `declaration` meets its contract: it is the definition, byte by byte.
+-- The record where it ends in its block, and where it goes on behind it.
+use mathlib.Core.Path.{refl, _∙_}
+use native.Mathlib.Omega.{arith}
+use Rattle.rules.proofs.SameLaws.{declaration-same}
+use Rattle.readers.proofs.NearLaws.{reaches, same}
 use borrow.Author.Needs.{needs}
 use Rattle.readers.proofs.declaration.Statement.{statement}
 use Rattle.readers.proofs.declaration.Tie as tie
 
-add-if1 : tie.Need-add-if1
-add-if1 c = search needs
+left-in-block-requires : tie.Need-left-in-block-requires
+left-in-block-requires c κs = search needs
 
-early-declaration-requires : tie.Need-early-declaration-requires
-early-declaration-requires c κs = search needs
+place-of-requires : tie.Need-place-of-requires
+place-of-requires c κs = search needs
+
+declaration-from-requires : tie.Need-declaration-from-requires
+declaration-from-requires c κs =
+    let at-if1 = c .before in
+    let at-left = at-if1 .before in
+    let start = at-left .before .before in
+    reaches (start .pre .0) (start .args .at) 6 (start .pre .1) (omega arith) (omega arith) (c .place-of .ensures)
+    (at-left .left-in-block .ensures) (λ l. omega arith)
 
 returns : tie.Need-returns
-returns c = search needs
+returns c =
+    let at-place = c .before in
+    let at-if1 = at-place .before in
+    let at-left = at-if1 .before in
+    let start = at-left .before .before in
+    c .declaration-from .ensures
+    ∙ declaration-same (same (start .pre .0) (start .args .at) 6 (start .pre .1) (omega arith) (omega arith)
+    (at-place .place-of .ensures) (at-left .left-in-block .ensures) (at-if1 .if1 .taken) (λ l. absurd (omega arith)))
 
-payload-byte-requires : tie.Need-payload-byte-requires
-payload-byte-requires c κs = search needs
+place-of-requires-2 : tie.Need-place-of-requires-2
+place-of-requires-2 c κs = search needs
 
-add-payload-byte : tie.Need-add-payload-byte
-add-payload-byte c = search needs
-
-payload-byte-requires-2 : tie.Need-payload-byte-requires-2
-payload-byte-requires-2 c κs = search needs
-
-add-four : tie.Need-add-four
-add-four c = search needs
-
-four-requires : tie.Need-four-requires
-four-requires c κs = search needs
+declaration-from-requires-2 : tie.Need-declaration-from-requires-2
+declaration-from-requires-2 c κs =
+    let at-if1 = c .before in
+    let at-left = at-if1 .before in
+    let start = at-left .before .before in
+    reaches (start .pre .0) (start .args .at) 6 (start .pre .1) (omega arith) (omega arith) (c .place-of2 .ensures)
+    (at-left .left-in-block .ensures) (λ l. omega arith)
 
 returns-2 : tie.Need-returns-2
-returns-2 c = cc
+returns-2 c =
+    let at-place = c .before in
+    let at-if1 = at-place .before in
+    let at-left = at-if1 .before in
+    let start = at-left .before .before in
+    c .declaration-from2 .ensures
+    ∙ declaration-same (same (start .pre .0) (start .args .at) 6 (start .pre .1) (omega arith) (omega arith)
+    (at-place .place-of2 .ensures) (at-left .left-in-block .ensures) (omega arith) (λ _. refl))
 
 pub declaration-spec : {M : Type 1} → statement M
 declaration-spec =
     tie.close
     (tie.spec
-    add-if1
-    early-declaration-requires
+    left-in-block-requires
+    place-of-requires
+    declaration-from-requires
     returns
-    payload-byte-requires
-    add-payload-byte
-    payload-byte-requires-2
-    add-four
-    four-requires
+    place-of-requires-2
+    declaration-from-requires-2
     returns-2)

@@ -1,33 +1,65 @@
--- `instruction_record` meets its contract: it is the definition, byte by byte.
+-- The record where it ends in its block, and where it goes on behind it.
+use mathlib.Core.Path.{refl, _∙_}
+use native.Mathlib.Omega.{arith}
+use Rattle.rules.proofs.SameLaws.{instruction-same}
+use Rattle.readers.proofs.NearLaws.{reaches, same}
 use borrow.Author.Needs.{needs}
 use Rattle.readers.proofs.instruction_record.Statement.{statement}
 use Rattle.readers.proofs.instruction_record.Tie as tie
 
-payload-byte-requires : tie.Need-payload-byte-requires
-payload-byte-requires c κs = search needs
+left-in-block-requires : tie.Need-left-in-block-requires
+left-in-block-requires c κs = search needs
 
-add-payload-byte : tie.Need-add-payload-byte
-add-payload-byte c = search needs
+place-of-requires : tie.Need-place-of-requires
+place-of-requires c κs = search needs
 
-payload-byte-requires-2 : tie.Need-payload-byte-requires-2
-payload-byte-requires-2 c κs = search needs
-
-add-word : tie.Need-add-word
-add-word c = search needs
-
-word-requires : tie.Need-word-requires
-word-requires c κs = search needs
+instruction-from-requires : tie.Need-instruction-from-requires
+instruction-from-requires c κs =
+    let at-if1 = c .before in
+    let at-left = at-if1 .before in
+    let start = at-left .before .before in
+    reaches (start .pre .0) (start .args .at) 4 (start .pre .1) (omega arith) (omega arith) (c .place-of .ensures)
+    (at-left .left-in-block .ensures) (λ l. omega arith)
 
 returns : tie.Need-returns
-returns c = cc
+returns c =
+    let at-place = c .before in
+    let at-if1 = at-place .before in
+    let at-left = at-if1 .before in
+    let start = at-left .before .before in
+    c .instruction-from .ensures
+    ∙ instruction-same (same (start .pre .0) (start .args .at) 4 (start .pre .1) (omega arith) (omega arith)
+    (at-place .place-of .ensures) (at-left .left-in-block .ensures) (at-if1 .if1 .taken) (λ l. absurd (omega arith)))
+
+place-of-requires-2 : tie.Need-place-of-requires-2
+place-of-requires-2 c κs = search needs
+
+instruction-from-requires-2 : tie.Need-instruction-from-requires-2
+instruction-from-requires-2 c κs =
+    let at-if1 = c .before in
+    let at-left = at-if1 .before in
+    let start = at-left .before .before in
+    reaches (start .pre .0) (start .args .at) 4 (start .pre .1) (omega arith) (omega arith) (c .place-of2 .ensures)
+    (at-left .left-in-block .ensures) (λ l. omega arith)
+
+returns-2 : tie.Need-returns-2
+returns-2 c =
+    let at-place = c .before in
+    let at-if1 = at-place .before in
+    let at-left = at-if1 .before in
+    let start = at-left .before .before in
+    c .instruction-from2 .ensures
+    ∙ instruction-same (same (start .pre .0) (start .args .at) 4 (start .pre .1) (omega arith) (omega arith)
+    (at-place .place-of2 .ensures) (at-left .left-in-block .ensures) (omega arith) (λ _. refl))
 
 pub instruction-record-spec : {M : Type 1} → statement M
 instruction-record-spec =
     tie.close
     (tie.spec
-    payload-byte-requires
-    add-payload-byte
-    payload-byte-requires-2
-    add-word
-    word-requires
-    returns)
+    left-in-block-requires
+    place-of-requires
+    instruction-from-requires
+    returns
+    place-of-requires-2
+    instruction-from-requires-2
+    returns-2)

@@ -15,9 +15,10 @@ same-length c = search needs
 returns : tie.Need-returns
 returns c =
     let at-write-value = c .before .before in
-    let start = at-write-value .before .before .before .before in
+    let start = at-write-value .before .before .before .before .before .before in
+    let x = start .args in
     at-write-value .write-value .ensures .1
-    ∙ sets-front (bytesOf (start .args .index .now) (start .args .cells .now) (start .args .k)) (start .args .out .now) (start .pre .1)
+    ∙ sets-front (bytesOf (x .t1 .now) (x .cells .now) (x .k)) (x .out .now) (start .pre .1)
 
 pub write-spec : {M : Type 1} → statement M
 write-spec = tie.close (tie.spec write-value-requires same-length returns)

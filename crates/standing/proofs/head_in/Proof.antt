@@ -1,10 +1,11 @@
 -- Found whole, or every field is 0.
 use mathlib.Core.Path.{sym, _∙_}
-use native.Mathlib.Omega.{arith}
 use Prim.Native.Nat.{_+_}
+use native.Mathlib.Omega.{arith}
 use borrow.Author.Tests.{not-true, not-false}
+use Rattle.rules.proofs.SameLaws.{head-same}
 use Rattle.standing.specs.Found.{Inside}
-use Rattle.standing.proofs.StandingLaws.{seen-whole, seen-not}
+use Rattle.standing.proofs.StandingLaws.{seen-whole, seen-not, found-reaches, found-same}
 use borrow.Author.Needs.{needs}
 use Rattle.standing.proofs.head_in.Statement.{statement}
 use Rattle.standing.proofs.head_in.Tie as tie
@@ -25,33 +26,30 @@ returns c =
 inside : (c : tie.Else1) → Inside (c .before .before .before .args .file .now) (c .before .before .before .args .at + 10)
 inside c = c .before .is-there .ensures .1 (not-false _ (c .if1 .left))
 
-declaration-requires : tie.Need-declaration-requires
-declaration-requires c κs = let i = inside (c) in record { counted = omega arith; small = omega arith }
+place-of-requires : tie.Need-place-of-requires
+place-of-requires c κs = let i = inside c in omega arith
 
-add-byte : tie.Need-add-byte
-add-byte c = let i = inside (c .before) in omega arith
+left-in-block-requires : tie.Need-left-in-block-requires
+left-in-block-requires c κs = search needs
 
-byte-requires : tie.Need-byte-requires
-byte-requires c κs = let i = inside (c .before) in record { counted = omega arith; small = omega arith }
-
-add-byte-2 : tie.Need-add-byte-2
-add-byte-2 c = let i = inside (c .before .before) in omega arith
-
-byte-requires-2 : tie.Need-byte-requires-2
-byte-requires-2 c κs = let i = inside (c .before .before) in record { counted = omega arith; small = omega arith }
-
-add-word : tie.Need-add-word
-add-word c = let i = inside (c .before .before .before) in omega arith
-
-word-requires : tie.Need-word-requires
-word-requires c κs = let i = inside (c .before .before .before) in record { counted = omega arith; small = omega arith }
+head-from-requires : tie.Need-head-from-requires
+head-from-requires c κs =
+    let at-place = c .before in
+    found-reaches (at-place .before .before .before .before .args .at) 10 (inside (at-place .before)) (omega arith) (omega arith)
+    (at-place .place-of .ensures) (c .left-in-block .ensures)
 
 returns-2 : tie.Need-returns-2
 returns-2 c =
-    let a = c .before .before .before .before .before .before .before .args in
-    let e = not-false _ (c .before .before .before .before .if1 .left) in
-    let w = c .before .before .before .before .before .is-there .ensures .0 in
-    let s = seen-whole (a .file .now) 10 (a .at) (sym w ∙ e) in
+    let at-left = c .before in
+    let at-place = at-left .before in
+    let at-if1 = at-place .before in
+    let a = at-if1 .before .before .before .args in
+    let t = not-false _ (at-if1 .if1 .left) in
+    let w = at-if1 .before .is-there .ensures .0 in
+    let s = seen-whole (a .file .now) 10 (a .at) (sym w ∙ t) in
+    let r = c .head-from .ensures
+    ∙ head-same (found-same (a .at) 10 (inside at-if1) (omega arith) (omega arith) (at-place .place-of .ensures)
+    (at-left .left-in-block .ensures)) in
     cc
 
 pub head-in-spec : {M : Type 1} → statement M
@@ -61,11 +59,7 @@ head-in-spec =
     is-there-requires
     no-declaration-requires
     returns
-    declaration-requires
-    add-byte
-    byte-requires
-    add-byte-2
-    byte-requires-2
-    add-word
-    word-requires
+    place-of-requires
+    left-in-block-requires
+    head-from-requires
     returns-2)

@@ -1,10 +1,12 @@
 -- Found whole, or every field is 0.
 use mathlib.Core.Path.{sym, _∙_}
-use native.Mathlib.Omega.{arith}
 use Prim.Native.Nat.{_+_}
+use native.Mathlib.Omega.{arith}
 use borrow.Author.Tests.{not-true, not-false}
+use Rattle.rules.proofs.SameLaws.{header-same}
+use Rattle.fields.proofs.OnwardLaws.{record-reaches, record-same}
 use Rattle.standing.specs.Found.{Inside}
-use Rattle.standing.proofs.StandingLaws.{seen-whole, seen-not}
+use Rattle.standing.proofs.StandingLaws.{seen-whole, seen-not, standing-placed}
 use borrow.Author.Needs.{needs}
 use Rattle.standing.proofs.header_in.Statement.{statement}
 use Rattle.standing.proofs.header_in.Tie as tie
@@ -22,34 +24,22 @@ returns c =
 inside : (c : tie.Else1) → Inside (c .before .before .before .args .file .now) (0 + 4)
 inside c = c .before .is-there .ensures .1 (not-false _ (c .if1 .left))
 
-byte-requires : tie.Need-byte-requires
-byte-requires c κs = let i = inside (c) in record { counted = omega arith; small = omega arith }
-
-byte-requires-2 : tie.Need-byte-requires-2
-byte-requires-2 c κs = let i = inside (c .before) in record { counted = omega arith; small = omega arith }
-
-byte-requires-3 : tie.Need-byte-requires-3
-byte-requires-3 c κs = let i = inside (c .before .before) in record { counted = omega arith; small = omega arith }
-
-byte-requires-4 : tie.Need-byte-requires-4
-byte-requires-4 c κs = let i = inside (c .before .before .before) in record { counted = omega arith; small = omega arith }
+header-from-requires : tie.Need-header-from-requires
+header-from-requires c κs =
+    record-reaches (standing-placed (c .before .before .before .args .file .now)) 0 4 4 (inside c .counted) (omega arith) (omega arith)
+    (omega arith) (λ l. omega arith)
 
 returns-2 : tie.Need-returns-2
 returns-2 c =
-    let a = c .before .before .before .before .before .before .before .args in
-    let e = not-false _ (c .before .before .before .before .if1 .left) in
-    let w = c .before .before .before .before .before .is-there .ensures .0 in
-    let s = seen-whole (a .file .now) 4 0 (sym w ∙ e) in
+    let at-if1 = c .before in
+    let a = at-if1 .before .before .before .args in
+    let t = not-false _ (at-if1 .if1 .left) in
+    let w = at-if1 .before .is-there .ensures .0 in
+    let s = seen-whole (a .file .now) 4 0 (sym w ∙ t) in
+    let r = c .header-from .ensures
+    ∙ header-same (record-same (standing-placed (a .file .now)) 0 4 4 (inside at-if1 .counted) (omega arith) (omega arith) (omega arith)
+    (λ l. omega arith)) in
     cc
 
 pub header-in-spec : {M : Type 1} → statement M
-header-in-spec =
-    tie.close
-    (tie.spec
-    is-there-requires
-    returns
-    byte-requires
-    byte-requires-2
-    byte-requires-3
-    byte-requires-4
-    returns-2)
+header-in-spec = tie.close (tie.spec is-there-requires returns header-from-requires returns-2)

@@ -1,9 +1,7 @@
 -- Each test is one of the rule for a byte.
 use native.Mathlib.Omega.{arith}
-use mathlib.Core.Path.{ap, _∙_}
+use mathlib.Core.Path.{ap}
 use lib.ListN.{length}
-use Rattle.rules.specs.Container.{payload}
-use Rattle.rules.specs.Records.{declarationAt}
 use Rattle.rules.specs.declared.records.Declaration.{Declaration}
 use Rattle.arguments.proofs.ReadingLaws.{read-end, read-unknown, read-type, read-many, byte-unknown, declaration-there}
 use Rattle.arguments.proofs.ReadingLaws.{declared-arity, declared, byte-right}
@@ -21,17 +19,10 @@ returns-2 c =
     read-unknown _ _ _ _ (start .pre .1 .1) (at-if1 .if1 .left)
     (byte-unknown (start .pre .0) (start .args .c) (start .args .known) (start .pre .1 .2) (c .if2 .taken))
 
-constructor-offset-requires : tie.Need-constructor-offset-requires
-constructor-offset-requires c κs =
+constructor-declaration-requires : tie.Need-constructor-declaration-requires
+constructor-declaration-requires c κs =
     let start = c .before .before .before in
-    omega (arith, declaration-there (start .pre .0) (start .args .c) (start .args .known) (start .pre .1 .2) (c .if2 .left))
-
-declaration-requires : tie.Need-declaration-requires
-declaration-requires c κs =
-    let at-if2 = c .before in
-    let start = at-if2 .before .before .before in
-    let there = declaration-there (start .pre .0) (start .args .c) (start .args .known) (start .pre .1 .2) (at-if2 .if2 .left) in
-    (start .pre .0 .verified, omega (arith, c .constructor-offset .ensures, there))
+    declaration-there (start .pre .0) (start .args .c) (start .args .known) (start .pre .1 .2) (c .if2 .left)
 
 wide-requires : tie.Need-wide-requires
 wide-requires c κs = search needs
@@ -42,14 +33,13 @@ element-copy-out-if3 c = search needs
 returns-3 : tie.Need-returns-3
 returns-3 c =
     let at-declaration = c .before .before .before .before in
-    let at-constructor-offset = at-declaration .before in
-    let at-if2 = at-constructor-offset .before in
+    let at-if2 = at-declaration .before in
     let at-if1 = at-if2 .before in
     let start = at-if1 .before .before in
+    let d = at-declaration .constructor-declaration in
     read-type _ _ _ _ (start .pre .1 .1) (at-if1 .if1 .left) _
-    (declared (start .pre .0) (start .args .c) (start .args .known) (start .pre .1 .2) (at-if2 .if2 .left)
-    (at-declaration .declaration .result) (at-declaration .declaration .ensures ∙ ap (declarationAt (payload (start .args .file .now)))
-    (at-constructor-offset .constructor-offset .ensures))) (c .if3 .taken)
+    (declared (start .pre .0) (start .args .c) (start .args .known) (start .pre .1 .2) (at-if2 .if2 .left) (d .result) (d .ensures))
+    (c .if3 .taken)
 
 add-if4 : tie.Need-add-if4
 add-if4 c = search needs
@@ -59,21 +49,19 @@ returns-4 c =
     let at-if3 = c .before in
     let at-wide = at-if3 .before .before .before in
     let at-declaration = at-wide .before in
-    let at-constructor-offset = at-declaration .before in
-    let at-if2 = at-constructor-offset .before in
+    let at-if2 = at-declaration .before in
     let at-if1 = at-if2 .before in
     let start = at-if1 .before .before in
-    let ed = at-declaration .declaration .ensures ∙ ap (declarationAt (payload (start .args .file .now)))
-    (at-constructor-offset .constructor-offset .ensures) in
+    let d = at-declaration .constructor-declaration in
     read-many _ _ _ _ (start .pre .1 .1) (at-if1 .if1 .left) _
-    (declared (start .pre .0) (start .args .c) (start .args .known) (start .pre .1 .2) (at-if2 .if2 .left)
-    (at-declaration .declaration .result) ed) (at-if3 .if3 .left)
+    (declared (start .pre .0) (start .args .c) (start .args .known) (start .pre .1 .2) (at-if2 .if2 .left) (d .result) (d .ensures))
+    (at-if3 .if3 .left)
     (omega (
       arith,
       c .if4 .taken,
       at-wide .wide .ensures .0,
-      declared-arity (start .pre .0) (start .args .c) (start .args .known) (start .pre .1 .2) (at-if2 .if2 .left)
-          (at-declaration .declaration .result) ed,
+      declared-arity (start .pre .0) (start .args .c) (start .args .known) (start .pre .1 .2) (at-if2 .if2 .left) (d .result)
+          (d .ensures),
     ))
 
 add-next : tie.Need-add-next
@@ -87,16 +75,14 @@ put-types-requires c κs =
     let at-if4 = c .before in
     let at-wide = at-if4 .before .before .before .before in
     let at-declaration = at-wide .before in
-    let at-constructor-offset = at-declaration .before in
-    let at-if2 = at-constructor-offset .before in
+    let at-if2 = at-declaration .before in
     let at-if1 = at-if2 .before in
     let start = at-if1 .before .before in
-    let ed = at-declaration .declaration .ensures ∙ ap (declarationAt (payload (start .args .file .now)))
-    (at-constructor-offset .constructor-offset .ensures) in
+    let d = at-declaration .constructor-declaration in
     let a = declared-arity (start .pre .0) (start .args .c) (start .args .known) (start .pre .1 .2) (at-if2 .if2 .left)
-    (at-declaration .declaration .result) ed in (
+    (d .result) (d .ensures) in (
       a .1,
-      ap (λ (d : Declaration). length (d .types)) ed,
+      ap (λ (d : Declaration). length (d .types)) (d .ensures),
       omega (arith, at-if1 .if1 .left, at-if4 .if4 .left, at-wide .wide .ensures .0, a .1),
     )
 
@@ -106,14 +92,12 @@ returns-5 c =
     let at-if3 = at-if4 .before in
     let at-wide = at-if3 .before .before .before in
     let at-declaration = at-wide .before in
-    let at-constructor-offset = at-declaration .before in
-    let at-if2 = at-constructor-offset .before in
+    let at-if2 = at-declaration .before in
     let at-if1 = at-if2 .before in
     let start = at-if1 .before .before in
-    byte-right (start .pre .0) (start .args .c) (start .args .known) (start .pre .1 .2) (at-if2 .if2 .left)
-    (at-declaration .declaration .result)
-    (at-declaration .declaration .ensures ∙ ap (declarationAt (payload (start .args .file .now)))
-    (at-constructor-offset .constructor-offset .ensures)) (start .args .at) (start .args .types .now) (start .pre .1 .1)
+    let d = at-declaration .constructor-declaration in
+    byte-right (start .pre .0) (start .args .c) (start .args .known) (start .pre .1 .2) (at-if2 .if2 .left) (d .result) (d .ensures)
+    (start .args .at) (start .args .types .now) (start .pre .1 .1)
     (at-if1 .if1 .left) (at-if3 .if3 .left) (at-wide .wide .result) (at-wide .wide .ensures .0) (at-if4 .if4 .left) _
     (c .put-types .ensures)
 
@@ -123,8 +107,7 @@ read-byte-spec =
     (tie.spec
     returns
     returns-2
-    constructor-offset-requires
-    declaration-requires
+    constructor-declaration-requires
     wide-requires
     element-copy-out-if3
     returns-3

@@ -3,26 +3,25 @@ use Prim.Native.Nat.{_+_, _≤_}
 use mathlib.Core.Path.{_≡_}
 use native.Mathlib.Omega.{arith}
 use lib.ListN.{length, drop, drop-of-length-le}
-use Rattle.rules.specs.Program.{Program}
+use Rattle.rules.specs.Records.{programIn}
 use Rattle.rules.specs.Run.{cellsLoadedBy, cellsLoaded}
-use Rattle.arguments.specs.Loading.{Loading}
 use Rattle.arguments.proofs.LoadingLaws.{byte-known, counted-cell, counted-constant}
 use borrow.Author.Needs.{needs}
 use Rattle.arguments.proofs.loading.cells_needed.Statement.{statement}
 use Rattle.arguments.proofs.loading.cells_needed.Tie as tie
 
 abbrev Inv-loop : tie.InvT-loop
-Inv-loop index bytes needed₀ i₀ needed i =
-    ((s : Program) → Loading s index bytes → needed ≡ cellsLoaded s (drop i bytes)) × (i ≤ length bytes) × (needed + i ≤ length bytes)
+Inv-loop file bytes needed₀ i₀ needed i =
+    (needed ≡ cellsLoaded (programIn file) (drop i bytes)) × (i ≤ length bytes) × (needed + i ≤ length bytes)
 
 abbrev μ-loop : tie.MeasureT-loop
-μ-loop index bytes needed₀ i₀ needed i = i
+μ-loop file bytes needed₀ i₀ needed i = i
 
 loop-holds : tie.Need-loop-holds Inv-loop μ-loop
 unfolding cellsLoadedBy
 loop-holds c =
-    let bytes = c .before .args .bytes .now in
-    (λ s a. rw (drop-of-length-le bytes {i = length bytes} (omega arith)), omega arith, omega arith)
+    let bytes = c .before .before .args .bytes .now in
+    (rw (drop-of-length-le bytes {i = length bytes} (omega arith)), omega arith, omega arith)
 
 sub-i : tie.Need-sub-i Inv-loop μ-loop
 sub-i c = search needs
@@ -37,8 +36,7 @@ constructor-arity-requires : tie.Need-constructor-arity-requires Inv-loop μ-loo
 constructor-arity-requires c κs =
     let at-loop = c .before .before .before in
     let l = at-loop .loop in
-    let (s, a) = at-loop .before .before .pre in
-    omega (arith, byte-known s _ _ a (l .i) (omega arith) (omega (arith, l .inv .1)) _ (c .wide .ensures .0))
+    byte-known (at-loop .before .before .before .pre) (l .i) (omega arith) (l .inv .1) (c .wide .ensures .0)
 
 add-needed : tie.Need-add-needed Inv-loop μ-loop
 add-needed c = omega (arith, c .before .before .before .before .before .loop .inv .2)
@@ -50,11 +48,12 @@ loop-again : tie.Need-loop-again Inv-loop μ-loop
 loop-again c =
     let at-arity = c .before in
     let at-wide = at-arity .before in
-    let l = at-wide .before .before .before .loop in (
-      λ s a. omega (
+    let at-loop = at-wide .before .before .before in
+    let l = at-loop .loop in (
+      omega (
         arith,
-        l .inv .0 s a,
-        counted-cell s _ _ a (l .i) (omega arith) (omega (arith, l .inv .1)) _ (at-wide .wide .ensures .0) _
+        l .inv .0,
+        counted-cell (at-loop .before .before .before .pre) (l .i) (omega arith) (l .inv .1) (at-wide .wide .ensures .0)
             (at-arity .constructor-arity .ensures) (c .if1 .taken),
       ),
       omega (arith, l .inv .1),
@@ -68,11 +67,12 @@ loop-again-2 : tie.Need-loop-again-2 Inv-loop μ-loop
 loop-again-2 c =
     let at-arity = c .before in
     let at-wide = at-arity .before in
-    let l = at-wide .before .before .before .loop in (
-      λ s a. omega (
+    let at-loop = at-wide .before .before .before in
+    let l = at-loop .loop in (
+      omega (
         arith,
-        l .inv .0 s a,
-        counted-constant s _ _ a (l .i) (omega arith) (omega (arith, l .inv .1)) _ (at-wide .wide .ensures .0) _
+        l .inv .0,
+        counted-constant (at-loop .before .before .before .pre) (l .i) (omega arith) (l .inv .1) (at-wide .wide .ensures .0)
             (at-arity .constructor-arity .ensures) (c .if1 .left),
       ),
       omega (arith, l .inv .1),
@@ -82,9 +82,8 @@ loop-again-2 c =
 returns : tie.Need-returns Inv-loop μ-loop
 returns c =
     let l = c .before .loop in
-    λ s a.
     let none : l .i ≡ 0 = omega arith in
-    rw none at (l .inv .0 s a)
+    rw none at (l .inv .0)
 
 pub cells-needed-spec : {M : Type 1} → statement M
 cells-needed-spec =

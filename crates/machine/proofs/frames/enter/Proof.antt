@@ -1,12 +1,15 @@
 -- The callee's frame has copies of its arguments, or a table is full.
 use native.Mathlib.Omega.{arith}
 use Rattle.machine.specs.Turns.{enter-deep, enter-full, enter-goes}
+use Rattle.fetch.proofs.IndexLaws.{function-small}
 use borrow.Author.Needs.{needs}
 use Rattle.machine.proofs.frames.enter.Statement.{statement}
 use Rattle.machine.proofs.frames.enter.Tie as tie
 
 function-arity-requires : tie.Need-function-arity-requires
-function-arity-requires c κs = search needs
+function-arity-requires c κs =
+    let start = c .before .before in
+    (start .pre .0 .0, start .pre .0 .1)
 
 add-depth : tie.Need-add-depth
 add-depth c = search needs
@@ -30,16 +33,21 @@ sub-copy-within : tie.Need-sub-copy-within
 sub-copy-within c = search needs
 
 copy-within-requires : tie.Need-copy-within-requires
-copy-within-requires c κs = search needs
+copy-within-requires c κs =
+    let start = c .before .before .before .before .before .before .before .before .before in
+    let small = function-small (start .pre .0 .0 .parsed) (start .args .r .callee) (start .pre .0 .1) in
+    (omega arith, omega arith, omega (arith, small))
 
 code-at-requires : tie.Need-code-at-requires
-code-at-requires c κs = search needs
+code-at-requires c κs =
+    let start = c .before .before .before .before .before .before .before .before .before .before .before .before in
+    function-small (start .pre .0 .0 .parsed) (start .args .r .callee) (start .pre .0 .1) .0
 
-add-t11 : tie.Need-add-t11
-add-t11 c = search needs
+add-t12 : tie.Need-add-t12
+add-t12 c = search needs
 
-sub-t15 : tie.Need-sub-t15
-sub-t15 c = search needs
+sub-t16 : tie.Need-sub-t16
+sub-t16 c = search needs
 
 same-length : tie.Need-same-length
 same-length c = search needs
@@ -65,7 +73,7 @@ enter-spec =
     sub-copy-within
     copy-within-requires
     code-at-requires
-    add-t11
-    sub-t15
+    add-t12
+    sub-t16
     same-length
     returns-3)

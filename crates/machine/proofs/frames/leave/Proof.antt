@@ -6,7 +6,9 @@ use Rattle.machine.proofs.frames.leave.Statement.{statement}
 use Rattle.machine.proofs.frames.leave.Tie as tie
 
 function-arity-requires : tie.Need-function-arity-requires
-function-arity-requires c κs = search needs
+function-arity-requires c κs =
+    let start = c .before .before in
+    (start .pre .0 .0, start .pre .0 .1)
 
 sub-under : tie.Need-sub-under
 sub-under c = search needs
@@ -37,24 +39,24 @@ wide16-requires-2 c κs = search needs
 
 place-behind-requires : tie.Need-place-behind-requires
 place-behind-requires c κs =
-    let start = c .before .before .before .before .before .before .before .before in
+    let start = c .before .before .before .before .before .before .before .before .before in
     rw (c .before .code-at .ensures, c .before .before .wide16 .ensures .0)
     (start .pre .1 .3, start .pre .1 .4, omega (arith, c .wide162 .ensures .0, start .pre .1 .1))
 
 wide16-requires-3 : tie.Need-wide16-requires-3
 wide16-requires-3 c κs = search needs
 
-sub-t15 : tie.Need-sub-t15
-sub-t15 c = search needs
+sub-t16 : tie.Need-sub-t16
+sub-t16 c = search needs
 
-add-t16 : tie.Need-add-t16
-add-t16 c = search needs
-
-sub-t17 : tie.Need-sub-t17
-sub-t17 c = search needs
+add-t17 : tie.Need-add-t17
+add-t17 c = search needs
 
 sub-t18 : tie.Need-sub-t18
-sub-t18 c = c .before .before .before .before .before .before .before .before .before .before .before .before .before .pre .2 .1
+sub-t18 c = search needs
+
+sub-t19 : tie.Need-sub-t19
+sub-t19 c = c .before .before .before .before .before .before .before .before .before .before .before .before .before .before .pre .2 .1
 
 same-length : tie.Need-same-length
 same-length c = search needs
@@ -86,9 +88,9 @@ leave-spec =
     wide16-requires-2
     place-behind-requires
     wide16-requires-3
-    sub-t15
-    add-t16
-    sub-t17
+    sub-t16
+    add-t17
     sub-t18
+    sub-t19
     same-length
     returns)

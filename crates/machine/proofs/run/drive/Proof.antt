@@ -1,6 +1,5 @@
 -- `machine::drive` meets its contract: a walk of its MIR, by hand. A turn of the loop is `straight`, to which cells and stack are lent
--- again,
--- and `turn`, to which stack and frames are lent again; after the loop `settled` is called.
+-- again, and `turn`, to which stack and frames are lent again; after the loop `settled` is called.
 -- The loop's variant is the run's state with what is known of it (`Pos`). All that is said of it are the laws of `DriveLaws`.
 use mathlib.Core.Path.{_≡_, refl, _∙_, ap, subst}
 use mathlib.Core.Bool.{Bool, true, false, not}
@@ -127,12 +126,12 @@ RR = Rg.the-row
 abbrev MR : RattleType
 MR = Lm.the-row
 
--- the index, `[u32; 128]`
+-- the index, `[u32; 64]`
 abbrev IX : RattleType
-IX = Array u32 128
+IX = Array u32 64
 
 abbrev slot-index : Slot 5
-slot-index = arrayOf (plain (λ _. u32)) 128
+slot-index = arrayOf (plain (λ _. u32)) 64
 
 abbrev stayed : Stays (own.ended .signature .params) (own.ended .kept)
 stayed = (
@@ -300,28 +299,27 @@ module _ {M : Type 1} (𝓤 : URA M) (H : Heap 𝓤) (A : Atoms 𝓤) (W : Given
   abbrev to-straight : ℕ → ℕ → GName → GName → Pos → Straight 𝓤 H A mem run .Ghost
   to-straight ν₁ ν₂ δ₁ δ₂ p = (
     (
-      (κ₀, (κ₁, (ν₁ ∷ [], (ν₂ ∷ [], tt)))),
-      (q₀, (q₁, (fullShare, (fullShare, tt)))),
+      (κ₀, (ν₁ ∷ [], (ν₂ ∷ [], tt))),
+      (q₀, (fullShare, (fullShare, tt))),
       tt,
-      (file, (index, (cells δ₁ (p .0), (stack δ₂ (p .1), (m, (p .3, tt)))))),
-      (s₀ ∷ [], (s₁ ∷ [], (s₂ ∷ [], (s₃ ∷ [], (Lm′.lowered m ∷ [], (Rg′.lowered (p .3) ∷ [], tt)))))),
+      (file, (cells δ₁ (p .0), (stack δ₂ (p .1), (m, (p .3, tt))))),
+      (s₀ ∷ [], (s₂ ∷ [], (s₃ ∷ [], (Lm′.lowered m ∷ [], (Rg′.lowered (p .3) ∷ [], tt))))),
     ),
     tt,
   )
 
   goes-straight : (ν₁ ν₂ : ℕ) (δ₁ δ₂ : GName) (p : Pos) → p .3 .why ≡ 0
-      → ent 𝓤 (⋆ 𝓤 H A (‵ (flft κ₀ q₀) ∷ ‵ (flft κ₁ q₁) ∷ ‵ (flft (ν₁ ∷ []) fullShare) ∷ ‵ (flft (ν₂ ∷ []) fullShare) ∷ ‵ OwnFile
-      ∷ ‵ OwnIndex ∷ ‵ (LentCells ν₁ δ₁ (p .0)) ∷ ‵ (LentStack ν₂ δ₂ (p .1)) ∷ []))
+      → ent 𝓤 (⋆ 𝓤 H A (‵ (flft κ₀ q₀) ∷ ‵ (flft (ν₁ ∷ []) fullShare) ∷ ‵ (flft (ν₂ ∷ []) fullShare) ∷ ‵ OwnFile
+      ∷ ‵ (LentCells ν₁ δ₁ (p .0)) ∷ ‵ (LentStack ν₂ δ₂ (p .1)) ∷ []))
       (Straight 𝓤 H A mem run .pre (to-straight ν₁ ν₂ δ₁ δ₂ p))
   goes-straight ν₁ ν₂ δ₁ δ₂ p going =
-      qed W (‵ (flft κ₀ q₀) ∷ ‵ (flft κ₁ q₁) ∷ ‵ (flft (ν₁ ∷ []) fullShare) ∷ ‵ (flft (ν₂ ∷ []) fullShare) ∷ ‵ OwnFile
-      ∷ ‵ OwnIndex ∷ ‵ (LentCells ν₁ δ₁ (p .0)) ∷ ‵ (LentStack ν₂ δ₂ (p .1)) ∷ []) ∵
+      qed W (‵ (flft κ₀ q₀) ∷ ‵ (flft (ν₁ ∷ []) fullShare) ∷ ‵ (flft (ν₂ ∷ []) fullShare) ∷ ‵ OwnFile
+      ∷ ‵ (LentCells ν₁ δ₁ (p .0)) ∷ ‵ (LentStack ν₂ δ₂ (p .1)) ∷ []) ∵
       says ! (ready-now (file .now) (index .now) m cs ss fs start begun (p .0) (p .1) (p .2) (p .3) (p .5) going) $
-      nothing ! $ move ! (1 ∷ 2 ∷ 3 ∷ 4 ∷ 0 ∷ []) $ group ! 5 $ frame ! $
+      nothing ! $ move ! (1 ∷ 2 ∷ 3 ∷ 0 ∷ []) $ group ! 4 $ frame ! $
       nothing ! $ owned ! RR (Is RR) (LL.makes Rg.the-type Rg′.the-plain 𝓤 H A) (p .3) _ (p .4) $ fjoin ! $
       owned ! MR (Is MR) (LL.makes Lm.the-type Lm′.the-plain 𝓤 H A) m _ is-m $ fjoin ! $
-      move ! (4 ∷ 0 ∷ []) $ fjoin ! $ move ! (3 ∷ 0 ∷ []) $ fjoin ! $ move ! (2 ∷ 0 ∷ []) $ fjoin ! $ move ! (1 ∷ 0 ∷ []) $ fjoin ! $
-      done !
+      move ! (3 ∷ 0 ∷ []) $ fjoin ! $ move ! (2 ∷ 0 ∷ []) $ fjoin ! $ move ! (1 ∷ 0 ∷ []) $ fjoin ! $ done !
 
   abbrev to-settle : Pos → Settle 𝓤 H A mem run .Ghost
   to-settle p = (((κ₀, tt), (q₀, tt), tt, (file, (p .3, tt)), (s₀ ∷ [], (Rg′.lowered (p .3) ∷ [], tt))), tt)
@@ -341,34 +339,35 @@ module _ {M : Type 1} (𝓤 : URA M) (H : Heap 𝓤) (A : Atoms 𝓤) (W : Given
     abbrev to-turn : ℕ → ℕ → GName → GName → Turn 𝓤 H A mem run .Ghost
     to-turn ν₁ ν₂ δ₁ δ₂ = (
       (
-        (κ₁, (ν₁ ∷ [], (ν₂ ∷ [], tt))),
-        (q₁, (fullShare, (fullShare, tt))),
+        (κ₀, (κ₁, (ν₁ ∷ [], (ν₂ ∷ [], tt)))),
+        (q₀, (q₁, (fullShare, (fullShare, tt)))),
         tt,
-        (index, (stack δ₁ ss₂, (frames δ₂ (p .2), (m, (t, tt))))),
-        (s₁ ∷ [], (s₃ ∷ [], (s₄ ∷ [], (Lm′.lowered m ∷ [], (Rg′.lowered t ∷ [], tt))))),
+        (file, (index, (stack δ₁ ss₂, (frames δ₂ (p .2), (m, (t, tt)))))),
+        (s₀ ∷ [], (s₁ ∷ [], (s₃ ∷ [], (s₄ ∷ [], (Lm′.lowered m ∷ [], (Rg′.lowered t ∷ [], tt)))))),
       ),
       tt,
     )
 
     goes-turn : (ν₁ ν₂ : ℕ) (δ₁ δ₂ : GName)
-        → ent 𝓤 (⋆ 𝓤 H A (‵ (flft κ₁ q₁) ∷ ‵ (flft (ν₁ ∷ []) fullShare) ∷ ‵ (flft (ν₂ ∷ []) fullShare) ∷ ‵ OwnIndex
-        ∷ ‵ (LentStack ν₁ δ₁ ss₂) ∷ ‵ (LentFrames ν₂ δ₂ (p .2)) ∷ [])) (Turn 𝓤 H A mem run .pre (to-turn ν₁ ν₂ δ₁ δ₂))
+        → ent 𝓤 (⋆ 𝓤 H A (‵ (flft κ₀ q₀) ∷ ‵ (flft κ₁ q₁) ∷ ‵ (flft (ν₁ ∷ []) fullShare) ∷ ‵ (flft (ν₂ ∷ []) fullShare) ∷ ‵ OwnFile
+        ∷ ‵ OwnIndex ∷ ‵ (LentStack ν₁ δ₁ ss₂) ∷ ‵ (LentFrames ν₂ δ₂ (p .2)) ∷ [])) (Turn 𝓤 H A mem run .pre (to-turn ν₁ ν₂ δ₁ δ₂))
     goes-turn ν₁ ν₂ δ₁ δ₂ =
-        qed W (‵ (flft κ₁ q₁) ∷ ‵ (flft (ν₁ ∷ []) fullShare) ∷ ‵ (flft (ν₂ ∷ []) fullShare) ∷ ‵ OwnIndex
+        qed W (‵ (flft κ₀ q₀) ∷ ‵ (flft κ₁ q₁) ∷ ‵ (flft (ν₁ ∷ []) fullShare) ∷ ‵ (flft (ν₂ ∷ []) fullShare) ∷ ‵ OwnFile ∷ ‵ OwnIndex
         ∷ ‵ (LentStack ν₁ δ₁ ss₂) ∷ ‵ (LentFrames ν₂ δ₂ (p .2)) ∷ []) ∵
         says ! (
-          file .now,
           cs₂,
           rested-now (file .now) (index .now) m cs ss fs start begun (p .0) (p .1) (p .2) (p .3) (p .5) cs₂ ss₂ t pauses,
         ) $
-        nothing ! $ move ! (1 ∷ 2 ∷ 3 ∷ 0 ∷ []) $ group ! 4 $ frame ! $
+        nothing ! $ move ! (1 ∷ 2 ∷ 3 ∷ 4 ∷ 0 ∷ []) $ group ! 5 $ frame ! $
         nothing ! $ owned ! RR (Is RR) (LL.makes Rg.the-type Rg′.the-plain 𝓤 H A) t _ is-t $ fjoin ! $
         owned ! MR (Is MR) (LL.makes Lm.the-type Lm′.the-plain 𝓤 H A) m _ is-m $ fjoin ! $
-        move ! (3 ∷ 0 ∷ []) $ fjoin ! $ move ! (2 ∷ 0 ∷ []) $ fjoin ! $ move ! (1 ∷ 0 ∷ []) $ fjoin ! $ done !
+        move ! (4 ∷ 0 ∷ []) $ fjoin ! $ move ! (3 ∷ 0 ∷ []) $ fjoin ! $ move ! (2 ∷ 0 ∷ []) $ fjoin ! $ move ! (1 ∷ 0 ∷ []) $ fjoin ! $
+        done !
 
     -- what the contract of `turn` says
     abbrev Turns : List ℕ → List Frame → Registers → Type 0
-    Turns ss₃ fs₃ t₃ = (f l : List ℕ) → Rested f (index .now) m l ss₂ (p .2) t → Turned f m l ss₂ (p .2) t ss₃ fs₃ t₃
+    Turns ss₃ fs₃ t₃ = (l : List ℕ) → Rested (file .now) (index .now) m l ss₂ (p .2) t
+        → Turned (file .now) m l ss₂ (p .2) t ss₃ fs₃ t₃
 
     -- the next position, which is nearer
     next : (ss₃ : List ℕ) (fs₃ : List Frame) (t₃ : Registers) → Turns ss₃ fs₃ t₃ → Is RR t₃ (Rg′.lowered t₃ ∷ []) → Pos
@@ -481,44 +480,48 @@ module _ {M : Type 1} (𝓤 : URA M) (H : Heap 𝓤) (A : Atoms 𝓤) (W : Given
             assigns ! (agg ! (and-then ! (load ! (from ! (stop !)) (look ! 12 refl))
             (and-then ! (load ! (from ! (fld ! refl (stop !))) (look-in ! 36 (sub ! 1 refl (whole !)))) (no-more !)))) (from ! (stop !))
             (init ! 10 refl (tt, (tt, (record { fits = room₄ .0 }, tt)))) $
-            move ! (6 ∷ []) $ use1 W (‵ OwnIndex ⊛ ‵ OwnIndex) (shr-copy 𝓤 H A W (named 1) κ₁ IX .twice index (s₁ ∷ [])) $ split ! $
-            lft-new ! tt (λ ν₁. move ! (10 ∷ 6 ∷ []) $
+            move ! (5 ∷ []) $ use1 W (‵ OwnFile ⊛ ‵ OwnFile) (shr-slice-copy 𝓤 H A W (named 0) κ₀ u8 .twice file (s₀ ∷ [])) $ split ! $
+            move ! (7 ∷ []) $ use1 W (‵ OwnIndex ⊛ ‵ OwnIndex) (shr-copy 𝓤 H A W (named 1) κ₁ IX .twice index (s₁ ∷ [])) $ split ! $
+            lft-new ! tt (λ ν₁. move ! (11 ∷ 8 ∷ []) $
             use2 W (later (some (λ (δ : GName). ‵ (LentStack ν₁ δ ss₂) ⊛ ‵ (LentAgain u16 κ₃ (ν₁ ∷ []) q₃ γ₃ b₃ o₃ δ ss₂))))
             (lends u16 κ₃ (ν₁ ∷ []) q₃ γ₃ b₃ o₃ 𝓤 H A W (named 3) (named 3) ss₂ (length ss) long) $ await ! tt $
-            pick ! (λ δ₁. split ! $ lft-new ! tt (λ ν₂. move ! (12 ∷ 9 ∷ []) $
+            pick ! (λ δ₁. split ! $ lft-new ! tt (λ ν₂. move ! (13 ∷ 11 ∷ []) $
             use2 W (later (some (λ (δ : GName). ‵ (LentFrames ν₂ δ (p .2)) ⊛ ‵ (LentAgain FR κ₄ (ν₂ ∷ []) q₄ γ₄ b₄ o₄ δ (p .2)))))
             (lends FR κ₄ (ν₂ ∷ []) q₄ γ₄ b₄ o₄ 𝓤 H A W (named 4) (named 4) (p .2) (length fs) (frames-long p)) $ await ! tt $
-            pick ! (λ δ₂. split ! $ move ! (9 ∷ 5 ∷ 2 ∷ 7 ∷ 3 ∷ 0 ∷ []) $ group ! 6 $
+            pick ! (λ δ₂. split ! $ move ! (10 ∷ 11 ∷ 5 ∷ 2 ∷ 9 ∷ 7 ∷ 3 ∷ 0 ∷ []) $ group ! 8 $
             use1 W (raw (Turn 𝓤 H A mem run .pre (to-turn p going cs₂ ss₂ t is-t pauses ν₁ ν₂ δ₁ δ₂)))
             (goes-turn p going cs₂ ss₂ t is-t pauses ν₁ ν₂ δ₁ δ₂) $
             calls-at-last ! fm (Turn 𝓤 H A mem run) known-turn (to-turn p going cs₂ ss₂ t is-t pauses ν₁ ν₂ δ₁ δ₂)
-            (and-then ! (load ! (from ! (stop !)) (look ! 40 refl)) (and-then ! (load ! (from ! (stop !)) (look ! 12 refl))
-            (and-then ! (load ! (from ! (stop !)) (look ! 8 refl)) (and-then ! (load ! (from ! (stop !)) (look ! 32 refl))
-            (and-then ! (load ! (from ! (stop !)) (look ! 26 refl)) (no-more !)))))) (λ v.
-            use1 W (later (some (λ (t₃ : Registers). ((‵ (flft κ₁ q₁) ⊛ ‵ (flft (ν₁ ∷ []) fullShare) ⊛ ‵ (flft (ν₂ ∷ []) fullShare) ⊛ ‵
-            ftrue) ⊛ ‵ (RR .own t₃ (v ∷ []))) ⊛ raw (ensured 𝓤 H A turn.ended (turn.clauses 𝓤 H A mem run) (κ₁, (ν₁ ∷ [], (ν₂ ∷ [], tt)))
-            (index, (stack δ₁ ss₂, (frames δ₂ (p .2), (m, (t, tt))))) tt t₃)))) (id⊢ 𝓤 _) $ await ! tt $
+            (and-then ! (load ! (from ! (stop !)) (look ! 41 refl)) (and-then ! (load ! (from ! (stop !)) (look ! 39 refl))
+            (and-then ! (load ! (from ! (stop !)) (look ! 11 refl)) (and-then ! (load ! (from ! (stop !)) (look ! 7 refl))
+            (and-then ! (load ! (from ! (stop !)) (look ! 31 refl)) (and-then ! (load ! (from ! (stop !)) (look ! 25 refl))
+            (no-more !))))))) (λ v.
+            use1 W (later (some (λ (t₃ : Registers). ((‵ (flft κ₀ q₀) ⊛ ‵ (flft κ₁ q₁) ⊛ ‵ (flft (ν₁ ∷ []) fullShare) ⊛ ‵
+            (flft (ν₂ ∷ []) fullShare) ⊛ ‵ ftrue) ⊛ ‵ (RR .own t₃ (v ∷ []))) ⊛ raw
+            (ensured 𝓤 H A turn.ended (turn.clauses 𝓤 H A mem run) (κ₀, (κ₁, (ν₁ ∷ [], (ν₂ ∷ [], tt))))
+            (file, (index, (stack δ₁ ss₂, (frames δ₂ (p .2), (m, (t, tt)))))) tt t₃)))) (id⊢ 𝓤 _) $ await ! tt $
             pick ! (λ t₃. split ! $ move ! (1 ∷ []) $
-            use1 W (some (λ (ws : Unit {0} × (List ℕ × (List Frame × (Unit {0} × (Unit {0} × Unit {0}))))). ‵
-            (lasts turn.ended (κ₁, (ν₁ ∷ [], (ν₂ ∷ [], tt))) (index, (stack δ₁ ss₂, (frames δ₂ (p .2), (m, (t, tt))))) ws) ⊛ raw
-            (fact 𝓤 (Turns p going cs₂ ss₂ t is-t pauses (ws .1 .0) (ws .1 .1 .0) t₃)))) (id⊢ 𝓤 _) $
-            pick ! (λ ws. split ! $ move ! (1 ∷ []) $ heard ! (Turns p going cs₂ ss₂ t is-t pauses (ws .1 .0) (ws .1 .1 .0) t₃) (λ e₃.
-            fsplit ! $ drop ! $ fsplit ! $ fsplit ! $ move ! (1 ∷ []) $ feqL ! (λ len₃. move ! (1 ∷ []) $ fsplit ! $ fsplit ! $
-            move ! (1 ∷ []) $ feqL ! (λ len₄. move ! (1 ∷ []) $ drop ! $ move ! (2 ∷ []) $ split ! $ move ! (1 ∷ []) $
+            use1 W (some (λ (ws : Unit {0} × (Unit {0} × (List ℕ × (List Frame × (Unit {0} × (Unit {0} × Unit {0})))))). ‵
+            (lasts turn.ended (κ₀, (κ₁, (ν₁ ∷ [], (ν₂ ∷ [], tt))))
+            (file, (index, (stack δ₁ ss₂, (frames δ₂ (p .2), (m, (t, tt)))))) ws) ⊛ raw
+            (fact 𝓤 (Turns p going cs₂ ss₂ t is-t pauses (ws .1 .1 .0) (ws .1 .1 .1 .0) t₃)))) (id⊢ 𝓤 _) $
+            pick ! (λ ws. split ! $ move ! (1 ∷ []) $ heard ! (Turns p going cs₂ ss₂ t is-t pauses (ws .1 .1 .0) (ws .1 .1 .1 .0) t₃) (λ e₃.
+            fsplit ! $ drop ! $ fsplit ! $ drop ! $ fsplit ! $ fsplit ! $ move ! (1 ∷ []) $ feqL ! (λ len₃. move ! (1 ∷ []) $ fsplit ! $
+            fsplit ! $ move ! (1 ∷ []) $ feqL ! (λ len₄. move ! (1 ∷ []) $ drop ! $ move ! (2 ∷ []) $ split ! $ move ! (1 ∷ []) $
             peeks ! RR (Is RR) (shows 𝓤 H A RR) t₃ (v ∷ []) (λ is₃. drop ! $ split ! $ move ! (1 ∷ []) $ split ! $ move ! (1 ∷ []) $
-            split ! $ move ! (1 ∷ []) $ drop ! $ move ! (1 ∷ []) $ lft-end ! tt $ move ! (0 ∷ 6 ∷ 4 ∷ []) $
-            use3 W (later (‵ (OwnStack (ws .1 .0)) ⊛ ‵ (flft κ₃ q₃))) (back u16 κ₃ (ν₁ ∷ []) q₃ γ₃ b₃ o₃ 𝓤 H A W (named 3) (named 3) ss₂
-            (length ss) long δ₁ (ws .1 .0) room₃ len₃) $ await ! tt $
-            split ! $ move ! (2 ∷ []) $ lft-end ! tt $ move ! (0 ∷ 5 ∷ 4 ∷ []) $
-            use3 W (later (‵ (OwnFrames (ws .1 .1 .0)) ⊛ ‵ (flft κ₄ q₄))) (back FR κ₄ (ν₂ ∷ []) q₄ γ₄ b₄ o₄ 𝓤 H A W (named 4) (named 4)
-            (p .2) (length fs) (frames-long p) δ₂ (ws .1 .1 .0) room₄ len₄) $ await ! tt $
+            split ! $ move ! (1 ∷ []) $ split ! $ move ! (1 ∷ []) $ drop ! $ move ! (1 ∷ []) $ lft-end ! tt $ move ! (0 ∷ 7 ∷ 5 ∷ []) $
+            use3 W (later (‵ (OwnStack (ws .1 .1 .0)) ⊛ ‵ (flft κ₃ q₃))) (back u16 κ₃ (ν₁ ∷ []) q₃ γ₃ b₃ o₃ 𝓤 H A W (named 3) (named 3) ss₂
+            (length ss) long δ₁ (ws .1 .1 .0) room₃ len₃) $ await ! tt $
+            split ! $ move ! (2 ∷ []) $ lft-end ! tt $ move ! (0 ∷ 6 ∷ 5 ∷ []) $
+            use3 W (later (‵ (OwnFrames (ws .1 .1 .1 .0)) ⊛ ‵ (flft κ₄ q₄))) (back FR κ₄ (ν₂ ∷ []) q₄ γ₄ b₄ o₄ 𝓤 H A W (named 4) (named 4)
+            (p .2) (length fs) (frames-long p) δ₂ (ws .1 .1 .1 .0) room₄ len₄) $ await ! tt $
             split ! $ land-last ! (from ! (stop !)) (store ! 30 refl (typed t₃ v is₃)) $
             rewrite ! 30 (λ (y : Val). ‵ (fat fullShare Rg′.mir l₈ 0 y)) (ap only (LL.tells Rg.the-type Rg′.the-laws t₃ _ is₃)) refl $
             forget ! 10 refl $ forget ! 12 refl $ forget ! 14 refl $ forget ! 16 refl $ forget ! 28 refl $
-            keep ! (6 ∷ 4 ∷ 7 ∷ 3 ∷ 1 ∷ 8 ∷ 5 ∷ 9 ∷ 2 ∷ 0 ∷ 10 ∷ 11 ∷ 12 ∷ 13 ∷ 14 ∷ 15 ∷ 16 ∷ 17 ∷ 18 ∷ 19 ∷ 20 ∷ 21 ∷ 22 ∷ 23 ∷ 24 ∷ 25 ∷
+            keep ! (5 ∷ 4 ∷ 8 ∷ 3 ∷ 1 ∷ 7 ∷ 6 ∷ 9 ∷ 2 ∷ 0 ∷ 10 ∷ 11 ∷ 12 ∷ 13 ∷ 14 ∷ 15 ∷ 16 ∷ 17 ∷ 18 ∷ 19 ∷ 20 ∷ 21 ∷ 22 ∷ 23 ∷ 24 ∷ 25 ∷
             26 ∷ 27 ∷ 28 ∷ 29 ∷ 30 ∷ 31 ∷ 32 ∷ 33 ∷ 34 ∷ 35 ∷ 36 ∷ 37 ∷ 38 ∷ 39 ∷ 40 ∷ 41 ∷ 42 ∷ 43 ∷ 44 ∷ 45 ∷ 46 ∷ 47 ∷ []) $
-            again ! Nearer At p (next p going cs₂ ss₂ t is-t pauses (ws .1 .0) (ws .1 .1 .0) t₃ e₃ (told t₃ v is₃))
-            (nearer p going cs₂ ss₂ t is-t pauses (ws .1 .0) (ws .1 .1 .0) t₃ e₃ (told t₃ v is₃)))))))))))))
+            again ! Nearer At p (next p going cs₂ ss₂ t is-t pauses (ws .1 .1 .0) (ws .1 .1 .1 .0) t₃ e₃ (told t₃ v is₃))
+            (nearer p going cs₂ ss₂ t is-t pauses (ws .1 .1 .0) (ws .1 .1 .1 .0) t₃ e₃ (told t₃ v is₃)))))))))))))
 
         steps-on : (p : Pos) → p .3 .why ≡ 0 → Sq W (At p) (runs C Λ En tested (anyQ (Around p)))
         steps-on p going =
@@ -533,48 +536,43 @@ module _ {M : Type 1} (𝓤 : URA M) (H : Heap 𝓤) (A : Atoms 𝓤) (W : Given
             (and-then ! (load ! (from ! (fld ! refl (stop !))) (look-in ! 38 (sub ! 1 refl (whole !)))) (no-more !)))) (from ! (stop !))
             (init ! 18 refl (tt, (tt, (record { fits = room₃ .0 }, tt)))) $
             move ! (5 ∷ []) $ use1 W (‵ OwnFile ⊛ ‵ OwnFile) (shr-slice-copy 𝓤 H A W (named 0) κ₀ u8 .twice file (s₀ ∷ [])) $ split ! $
-            move ! (7 ∷ []) $ use1 W (‵ OwnIndex ⊛ ‵ OwnIndex) (shr-copy 𝓤 H A W (named 1) κ₁ IX .twice index (s₁ ∷ [])) $ split ! $
-            lft-new ! tt (λ ν₁. move ! (10 ∷ 7 ∷ []) $
+            lft-new ! tt (λ ν₁. move ! (9 ∷ 5 ∷ []) $
             use2 W (later (some (λ (δ : GName). ‵ (LentCells ν₁ δ (p .0)) ⊛ ‵ (LentAgain u16 κ₂ (ν₁ ∷ []) q₂ γ₂ b₂ o₂ δ (p .0)))))
             (lends u16 κ₂ (ν₁ ∷ []) q₂ γ₂ b₂ o₂ 𝓤 H A W (named 2) (named 2) (p .0) (length cs) (cells-long p)) $ await ! tt $
-            pick ! (λ δ₁. split ! $ lft-new ! tt (λ ν₂. move ! (12 ∷ 10 ∷ []) $
+            pick ! (λ δ₁. split ! $ lft-new ! tt (λ ν₂. move ! (11 ∷ 8 ∷ []) $
             use2 W (later (some (λ (δ : GName). ‵ (LentStack ν₂ δ (p .1)) ⊛ ‵ (LentAgain u16 κ₃ (ν₂ ∷ []) q₃ γ₃ b₃ o₃ δ (p .1)))))
             (lends u16 κ₃ (ν₂ ∷ []) q₃ γ₃ b₃ o₃ 𝓤 H A W (named 3) (named 3) (p .1) (length ss) (stack-long p)) $ await ! tt $
-            pick ! (λ δ₂. split ! $ move ! (10 ∷ 11 ∷ 5 ∷ 2 ∷ 9 ∷ 7 ∷ 3 ∷ 0 ∷ []) $ group ! 8 $
+            pick ! (λ δ₂. split ! $ move ! (8 ∷ 5 ∷ 2 ∷ 7 ∷ 3 ∷ 0 ∷ []) $ group ! 6 $
             use1 W (raw (Straight 𝓤 H A mem run .pre (to-straight ν₁ ν₂ δ₁ δ₂ p))) (goes-straight ν₁ ν₂ δ₁ δ₂ p going) $
             calls-at ! fm (Straight 𝓤 H A mem run) known-straight (to-straight ν₁ ν₂ δ₁ δ₂ p)
-            (and-then ! (load ! (from ! (stop !)) (look ! 41 refl)) (and-then ! (load ! (from ! (stop !)) (look ! 39 refl))
-            (and-then ! (load ! (from ! (stop !)) (look ! 19 refl)) (and-then ! (load ! (from ! (stop !)) (look ! 15 refl))
-            (and-then ! (load ! (from ! (stop !)) (look ! 31 refl)) (and-then ! (load ! (from ! (stop !)) (look ! 27 refl))
-            (no-more !))))))) (λ u.
-            use1 W (later (some (λ (t : Registers). ((‵ (flft κ₀ q₀) ⊛ ‵ (flft κ₁ q₁) ⊛ ‵ (flft (ν₁ ∷ []) fullShare) ⊛ ‵
-            (flft (ν₂ ∷ []) fullShare) ⊛ ‵ ftrue) ⊛ ‵ (RR .own t (u ∷ []))) ⊛ raw
-            (ensured 𝓤 H A straight.ended (straight.clauses 𝓤 H A mem run) (κ₀, (κ₁, (ν₁ ∷ [], (ν₂ ∷ [], tt))))
-            (file, (index, (cells δ₁ (p .0), (stack δ₂ (p .1), (m, (p .3, tt)))))) tt t)))) (id⊢ 𝓤 _) $ await ! tt $
+            (and-then ! (load ! (from ! (stop !)) (look ! 42 refl)) (and-then ! (load ! (from ! (stop !)) (look ! 20 refl))
+            (and-then ! (load ! (from ! (stop !)) (look ! 16 refl)) (and-then ! (load ! (from ! (stop !)) (look ! 32 refl))
+            (and-then ! (load ! (from ! (stop !)) (look ! 28 refl)) (no-more !)))))) (λ u.
+            use1 W (later (some (λ (t : Registers). ((‵ (flft κ₀ q₀) ⊛ ‵ (flft (ν₁ ∷ []) fullShare) ⊛ ‵ (flft (ν₂ ∷ []) fullShare) ⊛ ‵
+            ftrue) ⊛ ‵ (RR .own t (u ∷ []))) ⊛ raw
+            (ensured 𝓤 H A straight.ended (straight.clauses 𝓤 H A mem run) (κ₀, (ν₁ ∷ [], (ν₂ ∷ [], tt)))
+            (file, (cells δ₁ (p .0), (stack δ₂ (p .1), (m, (p .3, tt))))) tt t)))) (id⊢ 𝓤 _) $ await ! tt $
             pick ! (λ t. split ! $ move ! (1 ∷ []) $
-            use1 W (some (λ (zs : Unit {0} × (Unit {0} × (List ℕ × (List ℕ × (Unit {0} × (Unit {0} × Unit {0})))))). ‵
-            (lasts straight.ended (κ₀, (κ₁, (ν₁ ∷ [], (ν₂ ∷ [], tt)))) (
-              file,
-              (index, (cells δ₁ (p .0), (stack δ₂ (p .1), (m, (p .3, tt))))),
-            ) zs) ⊛ raw
-            (fact 𝓤 (Pauses (file .now) m (p .0) (p .1) (p .3) (zs .1 .1 .0) (zs .1 .1 .1 .0) t)))) (id⊢ 𝓤 _) $
+            use1 W (some (λ (zs : Unit {0} × (List ℕ × (List ℕ × (Unit {0} × (Unit {0} × Unit {0}))))). ‵
+            (lasts straight.ended (κ₀, (ν₁ ∷ [], (ν₂ ∷ [], tt))) (file, (cells δ₁ (p .0), (stack δ₂ (p .1), (m, (p .3, tt))))) zs) ⊛ raw
+            (fact 𝓤 (Pauses (file .now) m (p .0) (p .1) (p .3) (zs .1 .0) (zs .1 .1 .0) t)))) (id⊢ 𝓤 _) $
             pick ! (λ zs. split ! $ move ! (1 ∷ []) $
-            heard ! (Pauses (file .now) m (p .0) (p .1) (p .3) (zs .1 .1 .0) (zs .1 .1 .1 .0) t) (λ e. fsplit ! $ drop ! $ fsplit ! $
-            drop ! $ fsplit ! $ fsplit ! $ move ! (1 ∷ []) $ feqL ! (λ len₁. move ! (1 ∷ []) $ fsplit ! $ fsplit ! $ move ! (1 ∷ []) $
+            heard ! (Pauses (file .now) m (p .0) (p .1) (p .3) (zs .1 .0) (zs .1 .1 .0) t) (λ e. fsplit ! $ drop ! $ fsplit ! $
+            fsplit ! $ move ! (1 ∷ []) $ feqL ! (λ len₁. move ! (1 ∷ []) $ fsplit ! $ fsplit ! $ move ! (1 ∷ []) $
             feqL ! (λ len₂. move ! (1 ∷ []) $ drop ! $ move ! (2 ∷ []) $ split ! $ move ! (1 ∷ []) $
-            peeks ! RR (Is RR) (shows 𝓤 H A RR) t (u ∷ []) (λ is. land ! (from ! (stop !)) (init ! 28 refl (typed t u is)) $
-            rewrite ! 28 (λ (v : Val). ‵ (fat fullShare Rg′.mir l₉ 0 v)) (ap only (LL.tells Rg.the-type Rg′.the-laws t _ is)) refl $
-            drop ! $ split ! $ move ! (1 ∷ []) $ split ! $ move ! (1 ∷ []) $ split ! $ move ! (1 ∷ []) $ split ! $ move ! (1 ∷ []) $
-            drop ! $ move ! (1 ∷ []) $ lft-end ! tt $ move ! (0 ∷ 7 ∷ 5 ∷ []) $
-            use3 W (later (‵ (OwnCells (zs .1 .1 .0)) ⊛ ‵ (flft κ₂ q₂))) (back u16 κ₂ (ν₁ ∷ []) q₂ γ₂ b₂ o₂ 𝓤 H A W (named 2) (named 2)
-            (p .0) (length cs) (cells-long p) δ₁ (zs .1 .1 .0) room₂ len₁) $ await ! tt $
-            split ! $ move ! (2 ∷ []) $ lft-end ! tt $ move ! (0 ∷ 6 ∷ 5 ∷ []) $
-            use3 W (later (‵ (OwnStack (zs .1 .1 .1 .0)) ⊛ ‵ (flft κ₃ q₃))) (back u16 κ₃ (ν₂ ∷ []) q₃ γ₃ b₃ o₃ 𝓤 H A W (named 3) (named 3)
-            (p .1) (length ss) (stack-long p) δ₂ (zs .1 .1 .1 .0) room₃ len₂) $ await ! tt $
+            peeks ! RR (Is RR) (shows 𝓤 H A RR) t (u ∷ []) (λ is. land ! (from ! (stop !)) (init ! 29 refl (typed t u is)) $
+            rewrite ! 29 (λ (v : Val). ‵ (fat fullShare Rg′.mir l₉ 0 v)) (ap only (LL.tells Rg.the-type Rg′.the-laws t _ is)) refl $
+            drop ! $ split ! $ move ! (1 ∷ []) $ split ! $ move ! (1 ∷ []) $ split ! $ move ! (1 ∷ []) $
+            drop ! $ move ! (1 ∷ []) $ lft-end ! tt $ move ! (0 ∷ 6 ∷ 4 ∷ []) $
+            use3 W (later (‵ (OwnCells (zs .1 .0)) ⊛ ‵ (flft κ₂ q₂))) (back u16 κ₂ (ν₁ ∷ []) q₂ γ₂ b₂ o₂ 𝓤 H A W (named 2) (named 2)
+            (p .0) (length cs) (cells-long p) δ₁ (zs .1 .0) room₂ len₁) $ await ! tt $
+            split ! $ move ! (2 ∷ []) $ lft-end ! tt $ move ! (0 ∷ 5 ∷ 4 ∷ []) $
+            use3 W (later (‵ (OwnStack (zs .1 .1 .0)) ⊛ ‵ (flft κ₃ q₃))) (back u16 κ₃ (ν₂ ∷ []) q₃ γ₃ b₃ o₃ 𝓤 H A W (named 3) (named 3)
+            (p .1) (length ss) (stack-long p) δ₂ (zs .1 .1 .0) room₃ len₂) $ await ! tt $
             split ! $ forget ! 18 refl $ forget ! 20 refl $ forget ! 22 refl $ forget ! 24 refl $
-            keep ! (5 ∷ 4 ∷ 3 ∷ 1 ∷ 8 ∷ 7 ∷ 6 ∷ 2 ∷ 0 ∷ 9 ∷ 10 ∷ 11 ∷ 12 ∷ 13 ∷ 14 ∷ 15 ∷ 16 ∷ 17 ∷ 18 ∷ 19 ∷ 20 ∷ 21 ∷ 22 ∷ 23 ∷ 24 ∷ 25 ∷
+            keep ! (4 ∷ 6 ∷ 3 ∷ 1 ∷ 7 ∷ 5 ∷ 8 ∷ 2 ∷ 0 ∷ 9 ∷ 10 ∷ 11 ∷ 12 ∷ 13 ∷ 14 ∷ 15 ∷ 16 ∷ 17 ∷ 18 ∷ 19 ∷ 20 ∷ 21 ∷ 22 ∷ 23 ∷ 24 ∷ 25 ∷
             26 ∷ 27 ∷ 28 ∷ 29 ∷ 30 ∷ 31 ∷ 32 ∷ 33 ∷ 34 ∷ 35 ∷ 36 ∷ 37 ∷ 38 ∷ 39 ∷ 40 ∷ 41 ∷ 42 ∷ 43 ∷ 44 ∷ 45 ∷ 46 ∷ 47 ∷ []) $
-            turns-on p going (zs .1 .1 .0) (zs .1 .1 .1 .0) t (told t u is) e (len₂ ∙ stack-long p))))))))))))
+            turns-on p going (zs .1 .0) (zs .1 .1 .0) t (told t u is) e (len₂ ∙ stack-long p))))))))))))
 
         settles : (p : Pos) → (p .3 .why ≡ 0 → ⊥) → Sq W (At p) (runs C Λ En code-mir.t-3 (atRet En Post))
         settles p n =

@@ -1,76 +1,87 @@
 -- The first i rows are done.
-use native.Mathlib.Omega.{arith}
-use Rattle.sizing.specs.Forms.{argumentsIn}
-use Rattle.sizing.proofs.BoundLaws.{Joining, joining-start, joining-next, joining-many, joining-over, joining-end, only-row}
 use Prim.Native.Nat.{_≤_, _<_, _-_}
+use native.Mathlib.Omega.{arith}
+use Rattle.rules.specs.Container.{payload}
+use Rattle.sizing.specs.Forms.{argumentsIn, FormMade}
+use Rattle.sizing.specs.Bounds.{rowIn}
+use Rattle.sizing.proofs.BoundLaws.{rowForm, Joining, only-row, joining-start, joining-many, joining-over, joining-next, joining-end}
 use borrow.Author.Needs.{needs}
 use Rattle.sizing.proofs.forms.into_bound.Statement.{statement}
 use Rattle.sizing.proofs.forms.into_bound.Tie as tie
 
 abbrev Inv-loop : tie.InvT-loop
-Inv-loop n arguments bound k x₀ i₀ x i = (i ≤ k) × Joining n bound (argumentsIn arguments n) i x
+Inv-loop file bound n arguments k x₀ i₀ x i = (i ≤ k) × Joining (payload file) n bound (argumentsIn arguments n) i x
 
 abbrev μ-loop : tie.MeasureT-loop
-μ-loop n arguments bound k x₀ i₀ x i = k - i
+μ-loop file bound n arguments k x₀ i₀ x i = k - i
 
-element-copy-out-substitute : tie.Need-element-copy-out-substitute Inv-loop μ-loop
-element-copy-out-substitute c = search needs
+-- what row i makes of the arguments
+made : (c : tie.After-substitute2 Inv-loop μ-loop) → let at-loop = c .before .before .before in
+    let a = at-loop .before .before .before .before .args in
+    FormMade (c .substitute2 .result)
+    (rowForm (a .n) (rowIn (payload (a .file .now)) (a .bound) (at-loop .loop .i)) (argumentsIn (a .arguments) (a .n)))
+made c = rw (c .before .row-of2 .ensures) at (c .substitute2 .ensures)
+
+row-of-requires : tie.Need-row-of-requires Inv-loop μ-loop
+row-of-requires c κs =
+    let start = c .before .before in
+    (start .pre .0, start .pre .1 .there 0 (start .pre .1 .some))
 
 substitute-requires : tie.Need-substitute-requires Inv-loop μ-loop
 substitute-requires c κs =
-    let s = c .before .before in
-    let z = s .pre .0 .some in
-    (s .pre .0 .each 0 z, s .pre .1)
+    let start = c .before .before .before in
+    (rw (c .row-of .ensures) (start .pre .1 .each 0 (start .pre .1 .some)), start .pre .2)
 
 returns : tie.Need-returns Inv-loop μ-loop
 returns c =
-    let s = c .before .before .before in
-    only-row (s .args .n) (s .args .t1) (argumentsIn (s .args .arguments) (s .args .n)) (s .pre .0) (c .before .before .if1 .taken)
-    (c .substitute .result) (c .substitute .ensures)
+    let at-row-of = c .before in
+    let at-if1 = at-row-of .before in
+    let a = at-if1 .before .before .args in
+    only-row (payload (a .file .now)) (a .n) (a .bound) (argumentsIn (a .arguments) (a .n)) (at-if1 .if1 .taken)
+    (rw (at-row-of .row-of .ensures) at (c .substitute .ensures))
 
 no-form-requires : tie.Need-no-form-requires Inv-loop μ-loop
 no-form-requires c κs = search needs
 
 loop-holds : tie.Need-loop-holds Inv-loop μ-loop
 loop-holds c =
-    let s = c .before .before in (
+    let a = c .before .before .before .args in (
       search needs,
-      joining-start (s .args .n) (s .args .t1) (argumentsIn (s .args .arguments)
-          (s .args .n)) (s .pre .0) (c .no-form .result) (c .no-form .ensures .0) (c .no-form .ensures .1),
+      joining-start (payload (a .file .now)) (a .n) (a .bound) (argumentsIn (a .arguments) (a .n)) (c .no-form .result)
+          (c .no-form .ensures .0) (c .no-form .ensures .1),
     )
 
-mul-row : tie.Need-mul-row Inv-loop μ-loop
-mul-row c = search needs
-
-element-copy-out-row : tie.Need-element-copy-out-row Inv-loop μ-loop
-element-copy-out-row c = search needs
+row-of-requires-2 : tie.Need-row-of-requires-2 Inv-loop μ-loop
+row-of-requires-2 c κs =
+    let at-loop = c .before in
+    let start = at-loop .before .before .before .before in
+    (start .pre .0, start .pre .1 .there (at-loop .loop .i) (c .loop-test .taken))
 
 substitute-requires-2 : tie.Need-substitute-requires-2 Inv-loop μ-loop
 substitute-requires-2 c κs =
-    let s = c .before .before .before .before .before in
-    (s .pre .0 .each (c .before .before .loop .i) (c .before .loop-test .taken), s .pre .1)
+    let at-loop-test = c .before in
+    let at-loop = at-loop-test .before in
+    let start = at-loop .before .before .before .before in
+    (rw (c .row-of2 .ensures) (start .pre .1 .each (at-loop .loop .i) (at-loop-test .loop-test .taken)), start .pre .2)
 
 returns-2 : tie.Need-returns-2 Inv-loop μ-loop
 returns-2 c =
     let at-substitute2 = c .before in
     let at-loop-test = at-substitute2 .before .before in
     let at-loop = at-loop-test .before in
-    let s = c .before .before .before .before .before .before .before in
-    let l = at-loop .loop in
     let z = c .if2 .taken in
     record {
-      many =
-          joining-many (s .args .n) (s .args .t1) (argumentsIn (s .args .arguments) (s .args .n)) (s .pre .0) (l .i)
-          (at-loop-test .loop-test .taken) (l .x) (at-substitute2 .substitute2 .result) (l .inv .1) (at-substitute2 .substitute2 .ensures);
+      many = joining-many (at-loop .loop .inv .1) (at-loop-test .loop-test .taken) (made at-substitute2);
       right = λ g. absurd (omega arith);
     }
 
 add-if3 : tie.Need-add-if3 Inv-loop μ-loop
 add-if3 c =
-    let l = c .before .before .before .before .loop in
-    let z : 0 < c .before .substitute2 .result .count = omega (arith, c .if2 .left) in
-    let a = l .inv .1 .right .few in
-    let b = c .before .substitute2 .ensures .right z .0 .few in
+    let at-substitute2 = c .before in
+    let at-loop = at-substitute2 .before .before .before in
+    let z : 0 < at-substitute2 .substitute2 .result .count = omega (arith, c .if2 .left) in
+    let a = at-loop .loop .inv .1 .right .few in
+    let b = at-substitute2 .substitute2 .ensures .right z .0 .few in
     omega arith
 
 no-form-requires-2 : tie.Need-no-form-requires-2 Inv-loop μ-loop
@@ -83,14 +94,11 @@ returns-3 c =
     let at-substitute2 = at-if2 .before in
     let at-loop-test = at-substitute2 .before .before in
     let at-loop = at-loop-test .before in
-    let s = c .before .before .before .before .before .before .before .before .before in
-    let l = at-loop .loop in
     let z = c .no-form2 .ensures .1 in
     record {
       many =
-          λ g. joining-over (s .args .n) (s .args .t1) (argumentsIn (s .args .arguments) (s .args .n)) (s .pre .0) (l .i)
-          (at-loop-test .loop-test .taken) (l .x) (at-substitute2 .substitute2 .result) (l .inv .1) (at-substitute2 .substitute2 .ensures)
-          (at-if2 .if2 .left) (at-if3 .if3 .taken);
+          λ g. joining-over (at-loop .loop .inv .1) (at-loop-test .loop-test .taken) (made at-substitute2) (at-if2 .if2 .left)
+          (at-if3 .if3 .taken);
       right = λ g. absurd (omega arith);
     }
 
@@ -99,10 +107,8 @@ joined-requires c κs =
     let at-if2 = c .before in
     let at-substitute2 = at-if2 .before in
     let at-loop = at-substitute2 .before .before .before in
-    let l = at-loop .loop in
-    let y = at-substitute2 .substitute2 .ensures in
     let z : 0 < at-substitute2 .substitute2 .result .count = omega (arith, at-if2 .if2 .left) in
-    (l .inv .1 .right, y .right z .0, c .if3 .left)
+    (at-loop .loop .inv .1 .right, at-substitute2 .substitute2 .ensures .right z .0, c .if3 .left)
 
 add-i : tie.Need-add-i Inv-loop μ-loop
 add-i c = search needs
@@ -116,21 +122,16 @@ loop-again c =
     let at-substitute2 = at-if2 .before in
     let at-loop-test = at-substitute2 .before .before in
     let at-loop = at-loop-test .before in
-    let s = c .before .before .before .before .before .before .before .before .before in
-    let l = at-loop .loop in
     let e = c .joined .ensures in (
       search needs,
-      joining-next (s .args .n) (s .args .t1) (argumentsIn (s .args .arguments) (s .args .n)) (s .pre .0) (l .i)
-          (at-loop-test .loop-test .taken) (l .x) (at-substitute2 .substitute2 .result) (l .inv .1) (at-substitute2 .substitute2 .ensures)
-          (c .joined .result) (at-if2 .if2 .left) (e .0) (e .1) (e .2),
+      joining-next (at-loop .loop .inv .1) (at-loop-test .loop-test .taken) (made at-substitute2) (at-if2 .if2 .left)
+          (c .joined .result) (e .0) (e .1) (e .2),
     )
 
 returns-4 : tie.Need-returns-4 Inv-loop μ-loop
 returns-4 c =
-    let s = c .before .before .before .before in
-    let l = c .before .loop in
-    joining-end (s .args .n) (s .args .t1) (argumentsIn (s .args .arguments) (s .args .n)) (s .pre .0) (l .i) (l .x) (omega arith)
-    (l .inv .1)
+    let at-loop = c .before in
+    joining-end (at-loop .loop .inv .1) (omega arith) (at-loop .before .before .before .before .pre .1 .some)
 
 pub into-bound-spec : {M : Type 1} → statement M
 into-bound-spec =
@@ -138,13 +139,12 @@ into-bound-spec =
     (tie.spec
     Inv-loop
     μ-loop
-    element-copy-out-substitute
+    row-of-requires
     substitute-requires
     returns
     no-form-requires
     loop-holds
-    mul-row
-    element-copy-out-row
+    row-of-requires-2
     substitute-requires-2
     returns-2
     add-if3

@@ -1,49 +1,37 @@
--- What `branch_variable` says of the state, for the constructor in its row.
+-- What `branch_variable` says of the state, for the constructor that is read.
+use mathlib.Core.Path.{_≡_, ap, _∙_}
 use native.Mathlib.Omega.{arith}
-use Rattle.sizing.proofs.MoveLaws.{move-constructor, move-row, move-short, move-branch-asks, said-branch-large, said-branch}
-use Rattle.sizing.proofs.RowLaws.{arity-small, weight-small}
+use Rattle.rules.specs.Container.{payload}
+use Rattle.rules.specs.Records.{constructorAt, constructorOffset}
+use Rattle.sizing.proofs.MoveLaws.{move-constructor, move-short, move-branch-asks, said-branch-large, said-branch}
 use borrow.Author.Needs.{needs}
 use Rattle.sizing.proofs.walk.branch.Statement.{statement}
 use Rattle.sizing.proofs.walk.branch.Tie as tie
 
+---- What is known at a place of the code
+
+offset : (c : tie.After-constructor-offset) → c .constructor-offset .result ≡ constructorOffset (c .before .before .before .args .c)
+offset c = c .constructor-offset .ensures ∙ ap constructorOffset (c .before .wide .ensures .0)
+
+is : (c : tie.After-constructor) → let a = c .before .before .before .before .args in
+    c .constructor .result ≡ constructorAt (payload (a .file .now)) (constructorOffset (a .c))
+is c = c .constructor .ensures ∙ ap (constructorAt (payload (c .before .before .before .before .args .file .now))) (offset (c .before))
+
 wide-requires : tie.Need-wide-requires
 wide-requires c κs = search needs
 
-mul-row : tie.Need-mul-row
-mul-row c = search needs
+constructor-offset-requires : tie.Need-constructor-offset-requires
+constructor-offset-requires c κs = search needs
 
-element-copy-out-row : tie.Need-element-copy-out-row
-element-copy-out-row c =
-    omega (
-      arith,
-      c .wide .ensures .0,
-      move-constructor (c .before .pre .3),
-      c .before .pre .3 .function .walking .records .few-constructors,
-    )
-
-array-read-branch-variable : tie.Need-array-read-branch-variable
-array-read-branch-variable c = search needs
-
-cast-branch-variable : tie.Need-cast-branch-variable
-cast-branch-variable c =
-    let at-wide = c .before in
-    let start = at-wide .before in
-    rw (at-wide .wide .ensures .0)
-    (omega (arith, arity-small (start .pre .3 .function .walking .records) (start .args .c) (move-constructor (start .pre .3))))
-
-array-read-branch-variable-2 : tie.Need-array-read-branch-variable-2
-array-read-branch-variable-2 c = search needs
-
-cast-branch-variable-2 : tie.Need-cast-branch-variable-2
-cast-branch-variable-2 c =
-    let at-wide = c .before in
-    let start = at-wide .before in
-    rw (at-wide .wide .ensures .0)
-    (omega (arith, weight-small (start .pre .3 .function .walking .records) (start .args .c) (move-constructor (start .pre .3))))
+constructor-requires : tie.Need-constructor-requires
+constructor-requires c κs =
+    let p = c .before .before .before .pre .1 in
+    (p .function .walking .records .verified, rw (offset c) (move-constructor p))
 
 branch-variable-requires : tie.Need-branch-variable-requires
 branch-variable-requires c κs =
-    move-branch-asks (c .before .before .pre .3) _ (move-row (c .before .before .pre .3) (c .before .wide .ensures .0))
+    let at-constructor = c .before in
+    move-branch-asks (at-constructor .before .before .before .before .pre .1) (is at-constructor)
 
 refuse-requires : tie.Need-refuse-requires
 refuse-requires c κs = search needs
@@ -52,12 +40,12 @@ returns : tie.Need-returns
 returns c =
     let at-if1 = c .before in
     let at-branch-variable = at-if1 .before in
-    let at-wide = at-branch-variable .before .before in
-    λ file functions alternatives a. said-branch-large a _ (move-row a (at-wide .wide .ensures .0))
+    let at-constructor = at-branch-variable .before .before in
+    said-branch-large (at-constructor .before .before .before .before .pre .1) (is at-constructor)
     (at-branch-variable .branch-variable .ensures) (at-if1 .if1 .taken) (c .refuse .ensures)
 
 add-slot-for : tie.Need-add-slot-for
-add-slot-for c = omega (arith, move-short (c .before .before .before .before .before .before .pre .3))
+add-slot-for c = omega (arith, move-short (c .before .before .before .before .before .before .before .before .before .pre .1))
 
 slot-for-requires : tie.Need-slot-for-requires
 slot-for-requires c κs = search needs
@@ -65,16 +53,16 @@ slot-for-requires c κs = search needs
 slot-for-requires-2 : tie.Need-slot-for-requires-2
 slot-for-requires-2 c κs = search needs
 
-add-t30 : tie.Need-add-t30
-add-t30 c = omega (arith, move-short (c .before .before .before .before .before .before .before .before .pre .3))
+add-t20 : tie.Need-add-t20
+add-t20 c = omega (arith, move-short (c .before .before .before .before .before .before .before .before .before .before .before .pre .1))
 
 returns-2 : tie.Need-returns-2
 returns-2 c =
     let at-slot-for = c .before in
     let at-if1 = at-slot-for .before .before .before in
     let at-branch-variable = at-if1 .before in
-    let at-wide = at-branch-variable .before .before in
-    λ file functions alternatives a. said-branch a _ (move-row a (at-wide .wide .ensures .0)) (at-branch-variable .branch-variable .ensures)
+    let at-constructor = at-branch-variable .before .before in
+    said-branch (at-constructor .before .before .before .before .pre .1) (is at-constructor) (at-branch-variable .branch-variable .ensures)
     (at-if1 .if1 .left) (at-slot-for .slot-for .result) (c .slot-for2 .result) (at-slot-for .slot-for .ensures) (c .slot-for2 .ensures)
 
 pub branch-spec : {M : Type 1} → statement M
@@ -82,17 +70,13 @@ branch-spec =
     tie.close
     (tie.spec
     wide-requires
-    mul-row
-    element-copy-out-row
-    array-read-branch-variable
-    cast-branch-variable
-    array-read-branch-variable-2
-    cast-branch-variable-2
+    constructor-offset-requires
+    constructor-requires
     branch-variable-requires
     refuse-requires
     returns
     add-slot-for
     slot-for-requires
     slot-for-requires-2
-    add-t30
+    add-t20
     returns-2)

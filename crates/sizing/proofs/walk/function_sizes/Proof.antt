@@ -12,26 +12,37 @@ use Rattle.sizing.proofs.walk.function_sizes.Statement.{statement}
 use Rattle.sizing.proofs.walk.function_sizes.Tie as tie
 
 abbrev Inv-loop : tie.InvT-loop
-Inv-loop file constructors functions alternatives g f saved₀ last i₀ saved i = Slots file g saved i
+Inv-loop file heads g f saved₀ last i₀ saved i = Slots file g saved i
 
 abbrev μ-loop : tie.MeasureT-loop
-μ-loop file constructors functions alternatives g f saved₀ last i₀ saved i = last + 1 - i
+μ-loop file heads g f saved₀ last i₀ saved i = last + 1 - i
 
 ---- What is known at a place of the code
 
-routine : (c : tie.After-routine-of Inv-loop μ-loop) → let a =
-    c .before .before .args in
-    RoutineIs (payload (a .file .now)) (headOffset (payload (a .file .now)) (a .g)) (c .routine-of .result)
-routine c = c .routine-of .ensures _ _ (c .before .before .pre .walking .records, c .before .before .pre .there)
+routine : (c : tie.After-routine-at Inv-loop μ-loop) → let a =
+    c .before .before .before .args in
+    RoutineIs (payload (a .file .now)) (headOffset (payload (a .file .now)) (a .g)) (c .routine-at .result)
+routine c =
+    let p = c .before .before .before .pre in
+    rw (p .walking .records .placed _ (p .there)) at (c .routine-at .ensures)
 
-routine-of-requires : tie.Need-routine-of-requires Inv-loop μ-loop
-routine-of-requires c κs = (_, _, (c .before .pre .walking .records, c .before .pre .there))
+mul-routine-at : tie.Need-mul-routine-at Inv-loop μ-loop
+mul-routine-at c = let p = c .before .pre in omega (arith, p .walking .records .few, p .there)
+
+element-copy-out-routine-at : tie.Need-element-copy-out-routine-at Inv-loop μ-loop
+element-copy-out-routine-at c = let p = c .before .pre in omega (arith, p .walking .records .few, p .there)
+
+routine-at-requires : tie.Need-routine-at-requires Inv-loop μ-loop
+routine-at-requires c κs =
+    let p = c .before .before .pre in
+    let r = p .walking .records in
+    (r .verified, rw (r .placed _ (p .there)) (r .there .function _ (p .there)))
 
 unvisited-requires : tie.Need-unvisited-requires Inv-loop μ-loop
 unvisited-requires c κs = search needs
 
 start-state-requires : tie.Need-start-state-requires Inv-loop μ-loop
-start-state-requires c κs = routine-few (c .before .before .before .pre) (routine (c .before))
+start-state-requires c κs = routine-few (c .before .before .before .before .pre) (routine (c .before))
 
 array-set-from-saved : tie.Need-array-set-from-saved Inv-loop μ-loop
 array-set-from-saved c = search needs
@@ -40,7 +51,7 @@ loop-holds : tie.Need-loop-holds Inv-loop μ-loop
 loop-holds c =
     let at-unvisited = c .before in
     let earlier = at-unvisited .before in
-    let start = earlier .before .before in
+    let start = earlier .before .before .before in
     slots-start (start .pre) (routine earlier) (at-unvisited .unvisited .result) (c .start-state .result) (at-unvisited .unvisited .ensures)
     (c .start-state .ensures)
 
@@ -48,14 +59,14 @@ mul-st : tie.Need-mul-st Inv-loop μ-loop
 mul-st c =
     let at-loop = c .before in
     let earlier = at-loop .before .before .before in
-    let start = earlier .before .before in
+    let start = earlier .before .before .before in
     omega (arith, slots-low (start .pre) (routine earlier) (at-loop .loop .inv) (c .loop-test .taken))
 
 array-copy-out-st : tie.Need-array-copy-out-st Inv-loop μ-loop
 array-copy-out-st c =
     let at-loop = c .before in
     let earlier = at-loop .before .before .before in
-    let start = earlier .before .before in
+    let start = earlier .before .before .before in
     omega (arith, slots-low (start .pre) (routine earlier) (at-loop .loop .inv) (c .loop-test .taken))
 
 step-requires : tie.Need-step-requires Inv-loop μ-loop
@@ -63,7 +74,7 @@ step-requires c κs =
     let at-loop-test = c .before in
     let at-loop = at-loop-test .before in
     let earlier = at-loop .before .before .before in
-    let start = earlier .before .before in
+    let start = earlier .before .before .before in
     slots-asks (start .pre) (routine earlier) (at-loop .loop .inv) (at-loop-test .loop-test .taken)
 
 enum-known-checked : tie.Need-enum-known-checked Inv-loop μ-loop
@@ -76,7 +87,7 @@ returns c =
     let at-loop-test = at-step .before .before in
     let at-loop = at-loop-test .before in
     let earlier = at-loop .before .before .before in
-    let start = earlier .before .before in
+    let start = earlier .before .before .before in
     sym (slots-refused (start .pre) (routine earlier) (at-loop .loop .inv) (at-loop-test .loop-test .taken) (at-step .step .ensures)
     (at-checked .checked .given .0 .0) (at-checked .checked .given .1))
 
@@ -90,7 +101,7 @@ mul-saved c =
     let at-loop-test = at-step .before .before in
     let at-loop = at-loop-test .before in
     let earlier = at-loop .before .before .before in
-    let start = earlier .before .before in
+    let start = earlier .before .before .before in
     omega (
       arith,
       slots-near (start .pre) (routine
@@ -104,7 +115,7 @@ array-set-from-saved-2 c =
     let at-loop-test = at-step .before .before in
     let at-loop = at-loop-test .before in
     let earlier = at-loop .before .before .before in
-    let start = earlier .before .before in
+    let start = earlier .before .before .before in
     slots-near (start .pre) (routine earlier) (at-loop .loop .inv) (at-loop-test .loop-test .taken) (at-step .step .ensures)
     (at-enum-told .enum-told .given .1) .0
 
@@ -115,7 +126,7 @@ mul-saved-2 c =
     let at-loop-test = at-step .before .before in
     let at-loop = at-loop-test .before in
     let earlier = at-loop .before .before .before in
-    let start = earlier .before .before in
+    let start = earlier .before .before .before in
     omega (
       arith,
       slots-near (start .pre) (routine
@@ -129,7 +140,7 @@ array-set-from-saved-3 c =
     let at-loop-test = at-step .before .before in
     let at-loop = at-loop-test .before in
     let earlier = at-loop .before .before .before in
-    let start = earlier .before .before in
+    let start = earlier .before .before .before in
     slots-near (start .pre) (routine earlier) (at-loop .loop .inv) (at-loop-test .loop-test .taken) (at-step .step .ensures)
     (at-enum-told .enum-told .given .1) .1
 
@@ -140,7 +151,7 @@ loop-less c =
     let at-loop-test = at-step .before .before in
     let at-loop = at-loop-test .before in
     let earlier = at-loop .before .before .before in
-    let start = earlier .before .before in
+    let start = earlier .before .before .before in
     let t = at-loop-test .loop-test .taken in
     omega (
       arith,
@@ -155,7 +166,7 @@ loop-again c =
     let at-loop-test = at-step .before .before in
     let at-loop = at-loop-test .before in
     let earlier = at-loop .before .before .before in
-    let start = earlier .before .before in
+    let start = earlier .before .before .before in
     slots-next (start .pre) (routine earlier) (at-loop .loop .inv) (at-loop-test .loop-test .taken) (at-step .step .ensures)
     (at-enum-told .enum-told .given .1)
 
@@ -163,7 +174,7 @@ returns-2 : tie.Need-returns-2 Inv-loop μ-loop
 returns-2 c =
     let at-loop = c .before in
     let earlier = at-loop .before .before .before in
-    let start = earlier .before .before in
+    let start = earlier .before .before .before in
     sym (slots-end (start .pre) (routine earlier) (at-loop .loop .inv) (c .loop-test .left))
 
 pub function-sizes-spec : {M : Type 1} → statement M
@@ -172,7 +183,9 @@ function-sizes-spec =
     (tie.spec
     Inv-loop
     μ-loop
-    routine-of-requires
+    mul-routine-at
+    element-copy-out-routine-at
+    routine-at-requires
     unvisited-requires
     start-state-requires
     array-set-from-saved

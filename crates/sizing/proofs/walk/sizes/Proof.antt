@@ -1,5 +1,5 @@
 -- The loop keeps that what is left of the pass is the functions from g on.
-use mathlib.Core.Path.{refl, sym, _∙_}
+use mathlib.Core.Path.{sym, _∙_}
 use Prim.Native.Nat.{_-_}
 use native.Mathlib.Omega.{arith}
 use Rattle.rules.specs.Container.{payload}
@@ -13,13 +13,10 @@ use Rattle.sizing.proofs.walk.sizes.Statement.{statement}
 use Rattle.sizing.proofs.walk.sizes.Tie as tie
 
 abbrev Inv-loop : tie.InvT-loop
-Inv-loop file heads constructors functions alternatives m g₀ g = Passing (atFunction (sizesOf (programIn file)) (payload file)) m g
+Inv-loop file heads m g₀ g = Passing (atFunction (sizesOf (programIn file)) (payload file)) m g
 
 abbrev μ-loop : tie.MeasureT-loop
-μ-loop file heads constructors functions alternatives m g₀ g = m - g
-
-alternative-rows-requires : tie.Need-alternative-rows-requires Inv-loop μ-loop
-alternative-rows-requires c κs = (c .before .pre .1, c .before .pre .2 .function)
+μ-loop file heads m g₀ g = m - g
 
 cast-m : tie.Need-cast-m Inv-loop μ-loop
 cast-m c = search needs
@@ -29,13 +26,11 @@ loop-holds c = pass-first
 
 function-sizes-requires : tie.Need-function-sizes-requires Inv-loop μ-loop
 function-sizes-requires c κs =
-    let at-loop-test = c .before in
-    let at-loop = at-loop-test .before in
-    let at-alternative-rows = at-loop .before .before in
-    let at-shared-slice-known = at-alternative-rows .before in
+    let at-loop = c .before in
+    let at-shared-slice-known = at-loop .before .before in
     let start = at-shared-slice-known .before in
-    sizes-asks (start .pre .0) (start .pre .2) (at-alternative-rows .alternative-rows .ensures)
-    (λ k. omega (arith, at-shared-slice-known .shared-slice-known .given k)) refl (at-loop .loop .g) (at-loop-test .loop-test .taken)
+    sizes-asks (start .pre .0) (start .pre .1) (λ k. omega (arith, at-shared-slice-known .shared-slice-known .given k))
+    (at-loop .loop .g) (c .loop-test .taken)
 
 enum-known-r : tie.Need-enum-known-r Inv-loop μ-loop
 enum-known-r c = search needs
@@ -45,18 +40,18 @@ unfolding sizesRight
 returns c =
     let at-r = c .before in
     let at-function-sizes = at-r .before .before in
-    let at-loop-test = at-function-sizes .before .before in
+    let at-loop-test = at-function-sizes .before in
     let at-loop = at-loop-test .before in
-    let start = at-loop .before .before .before .before in
+    let start = at-loop .before .before .before in
     pass-stop (at-loop .loop .inv) (at-loop-test .loop-test .taken)
     (told-as (at-function-sizes .function-sizes .ensures) (at-r .r .given .1))
-    ∙ sym (functions-pass (start .pre .2 .headed) (sizesOf (programIn _)))
+    ∙ sym (functions-pass (start .pre .1 .headed) (sizesOf (programIn _)))
 
 enum-told : tie.Need-enum-told Inv-loop μ-loop
 enum-told c = search needs
 
 add-g : tie.Need-add-g Inv-loop μ-loop
-add-g c = omega (arith, functions-few (c .before .before .before .before .before .before .before .before .before .pre .2 .headed))
+add-g c = omega (arith, functions-few (c .before .before .before .before .before .before .before .pre .1 .headed))
 
 loop-less : tie.Need-loop-less Inv-loop μ-loop
 loop-less c = omega arith
@@ -64,7 +59,7 @@ loop-less c = omega arith
 loop-again : tie.Need-loop-again Inv-loop μ-loop
 loop-again c =
     let at-function-sizes = c .before .before in
-    let at-loop-test = at-function-sizes .before .before in
+    let at-loop-test = at-function-sizes .before in
     let at-loop = at-loop-test .before in
     pass-next (at-loop .loop .inv) (at-loop-test .loop-test .taken)
     (told-as (at-function-sizes .function-sizes .ensures) (c .enum-told .given .1))
@@ -73,7 +68,7 @@ returns-2 : tie.Need-returns-2 Inv-loop μ-loop
 unfolding sizesRight
 returns-2 c =
     pass-end (c .before .loop .inv) (c .loop-test .left)
-    ∙ sym (functions-pass (c .before .before .before .before .before .pre .2 .headed) (sizesOf (programIn _)))
+    ∙ sym (functions-pass (c .before .before .before .before .pre .1 .headed) (sizesOf (programIn _)))
 
 pub sizes-spec : {M : Type 1} → statement M
 sizes-spec =
@@ -81,7 +76,6 @@ sizes-spec =
     (tie.spec
     Inv-loop
     μ-loop
-    alternative-rows-requires
     cast-m
     loop-holds
     function-sizes-requires

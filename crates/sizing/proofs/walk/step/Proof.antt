@@ -15,7 +15,6 @@ use Rattle.rules.specs.declared.records.Instruction.{Instruction}
 use Rattle.rules.specs.declared.records.Instruction.the-variants.{Load, Build, Call, Branch, Return, Stop}
 use Rattle.rules.specs.Shapes.{shapeFrom}
 use Rattle.sizing.specs.declared.paths.Saved.{Saved}
-use Rattle.sizing.specs.Routines.{NameTables, nameTables}
 use Rattle.sizing.specs.Walking.{Makes}
 use Rattle.sizing.specs.Moves.{MoveAsks}
 use Rattle.sizing.proofs.FileLaws.{here}
@@ -43,8 +42,7 @@ place c =
 -- the instruction that is read, where a state arrives
 move : (c : tie.After-instruction) → let s =
     c .before .before .before .before .before in
-    MoveAsks (s .args .file .now) (nameTables (s .args .constructors .now) (s .args .functions .now) (s .args .alternatives .now))
-    (s .args .g) (s .args .i) (s .args .st) (c .instruction .result)
+    MoveAsks (s .args .file .now) (s .args .heads .now) (s .args .g) (s .args .i) (s .args .st) (c .instruction .result)
 move c =
     let s = c .before .before .before .before .before in
     let p = s .pre in
@@ -58,8 +56,8 @@ move c =
           (c .before .instruction-offset .ensures) (c .instruction .result) (c .instruction .ensures);
     }
 
-as-is : {file : List ℕ} {ts : NameTables} {g i : ℕ} {st : Saved} {x y : Instruction} → MoveAsks file ts g i st x → x ≡ y
-    → MoveAsks file ts g i st y
+as-is : {file heads : List ℕ} {g i : ℕ} {st : Saved} {x y : Instruction} → MoveAsks file heads g i st x → x ≡ y
+    → MoveAsks file heads g i st y
 as-is m e = rw e at m
 
 -- the tag of a build or a call
@@ -117,14 +115,14 @@ load-variable-requires c κs =
     let q = move-load-asks (as-is (move earlier) (at-ins .ins .given .1)) in
     (q .2, omega (arith, q .0, q .1, c .wide .ensures .0), (move earlier) .fit .right .long)
 
-add-t22 : tie.Need-add-t22
-add-t22 c = omega (arith, short (c .before .before .before .before .before .before .before .before .before))
+add-t20 : tie.Need-add-t20
+add-t20 c = omega (arith, short (c .before .before .before .before .before .before .before .before .before))
 
 unvisited-requires : tie.Need-unvisited-requires
 unvisited-requires c κs = search needs
 
-add-t24 : tie.Need-add-t24
-add-t24 c = omega (arith, short (c .before .before .before .before .before .before .before .before .before .before))
+add-t22 : tie.Need-add-t22
+add-t22 c = omega (arith, short (c .before .before .before .before .before .before .before .before .before .before))
 
 line-move-requires : tie.Need-line-move-requires
 line-move-requires c κs =
@@ -141,7 +139,7 @@ enum-known-ins-2 : tie.Need-enum-known-ins-2
 enum-known-ins-2 c = search needs
 
 branch-requires : tie.Need-branch-requires
-branch-requires c κs = (_, _, _, as-is (move (c .before .before .before)) (c .before .ins2 .given .1))
+branch-requires c κs = (_, as-is (move (c .before .before .before)) (c .before .ins2 .given .1))
 
 enum-told : tie.Need-enum-told
 enum-told c = search needs
@@ -175,7 +173,7 @@ returns-3 : tie.Need-returns-3
 returns-3 c = search needs
 
 returns-4 : tie.Need-returns-4
-returns-4 c = c .branch .ensures _ _ _ (as-is (move (c .before .before .before .before)) (c .before .before .ins2 .given .1))
+returns-4 c = search needs
 
 returns-5 : tie.Need-returns-5
 unfolding shapeFrom
@@ -199,9 +197,9 @@ step-spec =
     wide-requires
     sub-load-variable
     load-variable-requires
-    add-t22
+    add-t20
     unvisited-requires
-    add-t24
+    add-t22
     line-move-requires
     enum-known-ins-2
     branch-requires

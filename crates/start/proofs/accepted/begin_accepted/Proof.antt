@@ -2,7 +2,6 @@
 use mathlib.Core.Path.{refl}
 use native.Mathlib.Omega.{arith}
 use Rattle.program.proofs.LayoutLaws.{functions-few}
-use Rattle.start.proofs.BeginLaws.{bytes-all}
 use Rattle.start.proofs.CallLaws.{head-there, no-entry, bad-arguments, callable}
 use Rattle.start.proofs.PrepareLaws.{refused-prepares}
 use borrow.Author.Needs.{needs}
@@ -71,12 +70,9 @@ begin-called-requires c κs =
     let at-if1 = at-index-of .before .before in
     let at-wide = at-if1 .before in
     let start = at-wide .before .before .before .before .before .before .before in (
-      (
-        start .args .file .now,
-        callable (start .pre .0) (start .pre .1)
-            (omega (arith, at-if1 .if1 .left, at-wide .wide .ensures .0)) refl (at-check-arguments .check-arguments .ensures)
-            (at-index-of .index-of .ensures) (at-enum-told .enum-told .given .1),
-      ),
+      callable (start .pre .0) (start .pre .1)
+          (omega (arith, at-if1 .if1 .left, at-wide .wide .ensures .0)) refl (at-check-arguments .check-arguments .ensures)
+          (at-index-of .index-of .ensures) (at-enum-told .enum-told .given .1),
       start .pre .2,
     )
 
@@ -87,19 +83,7 @@ same-length-2 : tie.Need-same-length-2
 same-length-2 c = search needs
 
 returns-3 : tie.Need-returns-3
-returns-3 c =
-    let at-called = c .before .before .before .before in
-    let at-enum-told = at-called .before .before .before in
-    let at-check-arguments = at-enum-told .before .before in
-    let at-index-of = at-check-arguments .before in
-    let at-if1 = at-index-of .before .before in
-    let at-wide = at-if1 .before in
-    let at-file = at-wide .before .before .before .before .before .before in
-    let start = at-file .before in
-    at-called .begin-called .ensures (start .args .file .now)
-    (bytes-all (start .args .file .now) (λ i. omega (arith, at-file .shared-slice-known .given i)))
-    (callable (start .pre .0) (start .pre .1) (omega (arith, at-if1 .if1 .left, at-wide .wide .ensures .0)) refl
-    (at-check-arguments .check-arguments .ensures) (at-index-of .index-of .ensures) (at-enum-told .enum-told .given .1))
+returns-3 c = search needs
 
 pub begin-accepted-spec : {M : Type 1} → statement M
 begin-accepted-spec =

@@ -6,9 +6,7 @@ use Rattle.start.proofs.first.load.Statement.{statement}
 use Rattle.start.proofs.first.load.Tie as tie
 
 make-arguments-requires : tie.Need-make-arguments-requires
-make-arguments-requires c κs =
-    let (s, l) = c .before .before .before .before .pre .0 in
-    (s, loading-arguments l)
+make-arguments-requires c κs = loading-arguments (c .before .before .before .before .before .pre .0)
 
 slice-aggregate-copy : tie.Need-slice-aggregate-copy
 slice-aggregate-copy c = search needs
@@ -16,8 +14,8 @@ slice-aggregate-copy c = search needs
 copy-requires : tie.Need-copy-requires
 copy-requires c κs =
     let at-make-arguments = c .before .before .before .before .before in
-    let (s, l) = at-make-arguments .before .before .before .before .before .pre .0 in
-    let e = pending-end l (at-make-arguments .make-arguments .ensures s (loading-arguments l)) in
+    let l = at-make-arguments .before .before .before .before .before .before .pre .0 in
+    let e = pending-end l (at-make-arguments .make-arguments .ensures) in
     (omega (arith, slice-aggregate-copy (c .before)), omega (arith, l .slots), l .few)
 
 code-at-requires : tie.Need-code-at-requires
@@ -32,10 +30,10 @@ same-length-2 c = search needs
 returns : tie.Need-returns
 returns c =
     let at-copy = c .before .before .before in
-    let at-make-arguments = at-copy .before .before .before .before .before .before in (
-      λ s l. rw (c .code-at .ensures, at-make-arguments .make-arguments .ensures s (loading-arguments l) .taken),
-      λ s l. loaded l (at-make-arguments .make-arguments .ensures s (loading-arguments l)) (at-copy .copy .ensures),
-    )
+    let at-make-arguments = at-copy .before .before .before .before .before .before in
+    let made = at-make-arguments .make-arguments .ensures in
+    let l = at-make-arguments .before .before .before .before .before .before .pre .0 in
+    (rw (c .code-at .ensures, made .taken), loaded l made (at-copy .copy .ensures))
 
 pub load-spec : {M : Type 1} → statement M
 load-spec =

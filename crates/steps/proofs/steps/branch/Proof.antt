@@ -5,6 +5,7 @@ use native.Mathlib.Omega.{arith}
 use Rattle.store.specs.Cells.{cellsTo}
 use Rattle.store.proofs.CellLaws.{room-less, cells-inside}
 use Rattle.steps.specs.Steps.{branch-passes, branch-constant, branch-full, branch-takes}
+use Rattle.fetch.proofs.IndexLaws.{constructor-small}
 use borrow.Author.Needs.{needs}
 use Rattle.steps.proofs.steps.branch.Statement.{statement}
 use Rattle.steps.proofs.steps.branch.Tie as tie
@@ -23,7 +24,7 @@ wide16-requires c κs = search needs
 
 constructor-at-requires : tie.Need-constructor-at-requires
 constructor-at-requires c κs =
-    let start = c .before .before .before .before .before in
+    let start = c .before .before .before .before .before .before in
     let a = start .args in
     let top = c .wide16 in
     let inside = cells-inside (top .result) (a .m .cells) (omega (arith, top .ensures .0, start .pre .0 .3)) in
@@ -33,13 +34,13 @@ sub-place-behind : tie.Need-sub-place-behind
 sub-place-behind c =
     let read = c .before in
     let is = rw (read .before .wide16 .ensures .0) at (read .constructor-at .ensures .0) in
-    read .before .before .before .before .before .before .pre .1 .1 (λ e. c .if1 .taken (is ∙ e)) .0
+    read .before .before .before .before .before .before .before .pre .1 .1 (λ e. c .if1 .taken (is ∙ e)) .0
 
 place-behind-requires : tie.Need-place-behind-requires
 place-behind-requires c κs =
     let read = c .before in
     let is = rw (read .before .wide16 .ensures .0) at (read .constructor-at .ensures .0) in
-    let other = read .before .before .before .before .before .before .pre .1 .1 (λ e. c .if1 .taken (is ∙ e)) in
+    let other = read .before .before .before .before .before .before .before .pre .1 .1 (λ e. c .if1 .taken (is ∙ e)) in
     (other .2, other .3, omega (arith, other .1))
 
 went-requires : tie.Need-went-requires
@@ -73,8 +74,8 @@ constructor-arity-requires c κs =
     let read = at-if1 .before in
     let is = rw (read .before .wide16 .ensures .0) at (read .constructor-at .ensures .0) in
     let one = rw (read .before .wide16 .ensures .0) at (c .before .is-constant .ensures) in
-    let start = read .before .before .before .before .before .before in
-    start .pre .1 .0 (sym is ∙ at-if1 .if1 .left) (sym one ∙ c .if2 .left) .0
+    let start = read .before .before .before .before .before .before .before in
+    start .pre .1 .0 (sym is ∙ at-if1 .if1 .left) (sym one ∙ c .if2 .left)
 
 add-if3 : tie.Need-add-if3
 add-if3 c =
@@ -83,8 +84,9 @@ add-if3 c =
     let read = at-if1 .before in
     let is = rw (read .before .wide16 .ensures .0) at (read .constructor-at .ensures .0) in
     let one = rw (read .before .wide16 .ensures .0) at (at-if2 .before .is-constant .ensures) in
-    let start = read .before .before .before .before .before .before in
-    omega (arith, start .pre .1 .0 (sym is ∙ at-if1 .if1 .left) (sym one ∙ at-if2 .if2 .left) .1)
+    let start = read .before .before .before .before .before .before .before in
+    let known = start .pre .1 .0 (sym is ∙ at-if1 .if1 .left) (sym one ∙ at-if2 .if2 .left) in
+    omega (arith, constructor-small (known .0) (start .args .c) (known .1))
 
 paused-requires : tie.Need-paused-requires
 paused-requires c κs = search needs
@@ -106,15 +108,16 @@ spread-requires c κs =
     let is = rw (read .before .wide16 .ensures .0) at (read .constructor-at .ensures .0) in
     let tested = at-if2 .before .is-constant .ensures in
     let one = rw (read .before .wide16 .ensures .0) at tested in
-    let start = read .before .before .before .before .before .before in
+    let start = read .before .before .before .before .before .before .before in
     let a = start .args in
     let top = read .before .wide16 in
     let lent = start .pre .0 .0 in
+    let known = start .pre .1 .0 (sym is ∙ at-if1 .if1 .left) (sym one ∙ at-if2 .if2 .left) in
     let inside = cells-inside (top .result) (a .m .cells) (omega (arith, top .ensures .0, start .pre .0 .3)) in (
       room-less (a .cells .now) (a .m .cells) (cellsTo (top .result)) (lent .cell-room) inside,
       top .ensures .1,
       sym tested ∙ at-if2 .if2 .left,
-      omega (arith, start .pre .1 .0 (sym is ∙ at-if1 .if1 .left) (sym one ∙ at-if2 .if2 .left) .1),
+      omega (arith, constructor-small (known .0) (a .c) (known .1)),
       omega (arith, lent .stack-room),
     )
 

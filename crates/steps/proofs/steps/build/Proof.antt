@@ -4,12 +4,13 @@ use mathlib.Core.Path.{_∙_, sym}
 use native.Mathlib.Omega.{arith}
 use Rattle.store.proofs.CellLaws.{room-less}
 use Rattle.steps.specs.Steps.{build-full, build-constant, build-short, build-goes}
+use Rattle.fetch.proofs.IndexLaws.{constructor-small}
 use borrow.Author.Needs.{needs}
 use Rattle.steps.proofs.steps.build.Statement.{statement}
 use Rattle.steps.proofs.steps.build.Tie as tie
 
 constructor-arity-requires : tie.Need-constructor-arity-requires
-constructor-arity-requires c κs = search needs
+constructor-arity-requires c κs = c .before .before .before .pre .0
 
 sub-from : tie.Need-sub-from
 sub-from c = search needs
@@ -21,7 +22,9 @@ returns : tie.Need-returns
 returns c = rw (c .paused .ensures) (build-full (omega arith))
 
 cast-stack : tie.Need-cast-stack
-cast-stack c = search needs
+cast-stack c =
+    let start = c .before .before .before .before .before .before .before .before in
+    omega (arith, constructor-small (start .pre .0 .0) (start .args .c) (start .pre .0 .1))
 
 mul-stack : tie.Need-mul-stack
 mul-stack c = search needs
@@ -54,15 +57,18 @@ returns-3 c =
     rw (c .paused2 .ensures) (build-short (omega arith) (λ e. at-if2 .if2 .left (arity ∙ e)) (omega arith))
 
 cast-put-cell : tie.Need-cast-put-cell
-cast-put-cell c = search needs
+cast-put-cell c =
+    let start = c .before .before .before .before .before .before .before .before .before .before .before in
+    omega (arith, constructor-small (start .pre .0 .0) (start .args .c) (start .pre .0 .1))
 
 put-cell-requires : tie.Need-put-cell-requires
 put-cell-requires c κs =
-    let start = c .before .before .before .before .before .before .before .before .before .before .before in
-    let lent = start .pre .0 in (
+    let start = c .before .before .before .before .before .before .before .before .before .before .before .before in
+    let lent = start .pre .1 in
+    let small = constructor-small (start .pre .0 .0) (start .args .c) (start .pre .0 .1) in (
       room-less (start .args .cells .now) (start .args .m .cells) (start .args .r .used + 1) (lent .cell-room) (omega arith),
       omega (arith, lent .few-cells),
-      omega arith,
+      omega (arith, small),
       omega (arith, lent .stack-room),
     )
 

@@ -8,7 +8,7 @@ fetch-requires : tie.Need-fetch-requires
 fetch-requires c κs =
     let at = c .before .before .before in
     let ready = at .pre .0 in
-    fetch-there _ _ (ready .indexed) _ _ _ _ _ _ (ready .standing)
+    fetch-there _ (ready .parsed) _ _ _ _ _ _ (ready .standing)
 
 cast-a : tie.Need-cast-a
 cast-a c = search needs
@@ -17,7 +17,7 @@ load-requires : tie.Need-load-requires
 load-requires c κs =
     let at = c .before .before .before .before .before .before in
     let word = c .before .before .fetch .ensures in
-    let x = load-ready _ _ _ _ _ _ (at .pre .0) (at .pre .1) (word .0) (c .before .match .keys1) in
+    let x = load-ready _ _ _ _ _ (at .pre .0) (at .pre .1) (word .0) (c .before .match .keys1) in
     let lent = at .pre .0 .lent in
     let laid = at .pre .0 .standing .laid in
     (x .0, x .1, laid .places, lent .stack-room, lent .few-places)
@@ -26,8 +26,8 @@ build-requires : tie.Need-build-requires
 build-requires c κs =
     let at = c .before .before .before .before .before .before .before in
     let word = c .before .before .before .fetch .ensures in
-    let x = build-ready _ _ _ _ _ _ (at .pre .0) (at .pre .1) (word .0) (c .before .before .match .keys2) in
-    (at .pre .0 .lent, x .0, x .1, x .2, at .pre .0 .standing .laid .places)
+    let x = build-ready _ _ _ _ _ (at .pre .0) (at .pre .1) (word .0) (c .before .before .match .keys2) in
+    ((at .pre .0 .parsed, x .0), at .pre .0 .lent, x .1, at .pre .0 .standing .laid .places)
 
 called-requires : tie.Need-called-requires
 called-requires c κs = search needs
@@ -40,11 +40,11 @@ branch-requires c κs =
     let at = c .before .before .before .before .before .before .before in
     let word = c .before .before .before .fetch .ensures in
     let key = c .before .before .match .keys4 in
-    let x = branch-ready _ _ _ _ _ _ (at .pre .0) (at .pre .1) (word .0) key in (
+    let x = branch-ready _ _ _ _ _ (at .pre .0) (at .pre .1) (word .0) key in (
       (at .pre .0 .lent, x .0, at .pre .0 .standing .laid .places, x .1),
       (
-        branch-ready-same _ _ _ _ _ _ (at .pre .0) (at .pre .1) (word .0) key,
-        branch-ready-other _ _ _ _ _ _ (at .pre .0) (at .pre .1) (word .0) key,
+        branch-ready-same _ _ _ _ _ (at .pre .0) (at .pre .1) (word .0) key,
+        branch-ready-other _ _ _ _ _ (at .pre .0) (at .pre .1) (word .0) key,
       ),
     )
 
@@ -61,7 +61,7 @@ returns : tie.Need-returns
 returns c =
     let at = c .before .before .before .before .before .before .before .before .before in
     let word = c .before .before .before .before .before .fetch .ensures in
-    load-stepped _ _ _ _ _ _ (at .pre .0) (at .pre .1) (word .0) (c .before .before .before .before .match .keys1) _ (word .1) (word .2)
+    load-stepped _ _ _ _ _ (at .pre .0) (at .pre .1) (word .0) (c .before .before .before .before .match .keys1) _ (word .1) (word .2)
     (c .before .before .load .ensures)
 
 same-length-2 : tie.Need-same-length-2
@@ -74,14 +74,14 @@ returns-2 : tie.Need-returns-2
 returns-2 c =
     let at = c .before .before .before .before .before .before .before .before .before .before .before .before in
     let word = c .before .before .before .before .before .before .before .before .fetch .ensures in
-    build-stepped _ _ _ _ _ _ (at .pre .0) (at .pre .1) (word .0) (c .before .before .before .before .before .before .before .match .keys2)
+    build-stepped _ _ _ _ _ (at .pre .0) (at .pre .1) (word .0) (c .before .before .before .before .before .before .before .match .keys2)
     _ (word .1) (word .2) (c .before .before .before .before .build .ensures)
 
 returns-3 : tie.Need-returns-3
 returns-3 c =
     let at = c .before .before .before .before .before .before in
     let word = c .before .before .fetch .ensures in
-    rw (c .called .ensures) (call-stepped _ _ _ _ _ _ (at .pre .0) (at .pre .1) (word .0) (c .before .match .keys3))
+    rw (c .called .ensures) (call-stepped _ _ _ _ _ (at .pre .0) (at .pre .1) (word .0) (c .before .match .keys3))
 
 same-length-4 : tie.Need-same-length-4
 same-length-4 c = search needs
@@ -93,21 +93,21 @@ returns-4 : tie.Need-returns-4
 returns-4 c =
     let at = c .before .before .before .before .before .before .before .before .before .before in
     let word = c .before .before .before .before .before .before .fetch .ensures in
-    branch-stepped _ _ _ _ _ _ (at .pre .0) (at .pre .1) (word .0) (c .before .before .before .before .before .match .keys4) _ (word .1)
+    branch-stepped _ _ _ _ _ (at .pre .0) (at .pre .1) (word .0) (c .before .before .before .before .before .match .keys4) _ (word .1)
     (word .2) (c .before .before .branch .ensures)
 
 returns-5 : tie.Need-returns-5
 returns-5 c =
     let at = c .before .before .before .before .before .before in
     let word = c .before .before .fetch .ensures in
-    rw (c .paused .ensures) (return-stepped _ _ _ _ _ _ (at .pre .0) (at .pre .1) (word .0) (c .before .match .keys5))
+    rw (c .paused .ensures) (return-stepped _ _ _ _ _ (at .pre .0) (at .pre .1) (word .0) (c .before .match .keys5))
 
 returns-6 : tie.Need-returns-6
 returns-6 c =
     let at = c .before .before .before .before .before .before in
     let word = c .before .before .fetch .ensures in
     let rest = c .before .match .rest in
-    rw (c .paused2 .ensures) (stop-stepped _ _ _ _ _ _ (at .pre .0) (at .pre .1) (word .0) (rest .0 .0 .0 .0 .1) (rest .0 .0 .0 .1)
+    rw (c .paused2 .ensures) (stop-stepped _ _ _ _ _ (at .pre .0) (at .pre .1) (word .0) (rest .0 .0 .0 .0 .1) (rest .0 .0 .0 .1)
     (rest .0 .0 .1)
     (rest .0 .1) (rest .1))
 

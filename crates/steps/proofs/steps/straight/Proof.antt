@@ -8,10 +8,10 @@ use Rattle.steps.proofs.steps.straight.Statement.{statement}
 use Rattle.steps.proofs.steps.straight.Tie as tie
 
 abbrev Inv-loop : tie.InvT-loop
-Inv-loop file index cells₀ stack₀ m r₀ cells stack r = Went file m cells₀ stack₀ r₀ cells stack r
+Inv-loop file cells₀ stack₀ m r₀ cells stack r = Went file m cells₀ stack₀ r₀ cells stack r
 
 abbrev μ-loop : tie.MeasureT-loop
-μ-loop file index cells₀ stack₀ m r₀ cells stack r = r .left
+μ-loop file cells₀ stack₀ m r₀ cells stack r = r .left
 
 loop-holds : tie.Need-loop-holds Inv-loop μ-loop
 loop-holds c =
@@ -20,17 +20,17 @@ loop-holds c =
 one-requires : tie.Need-one-requires Inv-loop μ-loop
 one-requires c κs =
     let at-loop = c .before .before .before .before in
-    (ready-again _ _ _ _ _ _ _ _ (at-loop .loop .inv) _ (at-loop .before .before .before .before .pre), omega arith)
+    (ready-again _ _ _ _ _ _ _ _ (at-loop .loop .inv) (at-loop .before .before .before .before .pre), omega arith)
 
 same-length : tie.Need-same-length Inv-loop μ-loop
 same-length c =
     let at-one = c .before .before .before .before .before .before in
-    at-one .one .kept .1 .1 .0 ∙ cells-kept-length _ _ _ (at-one .before .before .before .before .before .loop .inv .spared .of-cells)
+    at-one .one .kept .1 .0 ∙ cells-kept-length _ _ _ (at-one .before .before .before .before .before .loop .inv .spared .of-cells)
 
 same-length-2 : tie.Need-same-length-2 Inv-loop μ-loop
 same-length-2 c =
     let at-one = c .before .before .before .before .before .before in
-    at-one .one .kept .1 .1 .1 .0 ∙ at-one .before .before .before .before .before .loop .inv .spared .of-stack .len
+    at-one .one .kept .1 .1 .0 ∙ at-one .before .before .before .before .before .loop .inv .spared .of-stack .len
 
 returns : tie.Need-returns Inv-loop μ-loop
 returns c =

@@ -1,7 +1,7 @@
 -- The constructor is known just where its number is below the count.
 use native.Mathlib.Omega.{arith}
-use Rattle.program.proofs.LayoutLaws.{constructors-few}
-use Rattle.typing.proofs.SignatureLaws.{constructor-missing, constructor-small, constructor-found}
+use Rattle.program.proofs.LayoutLaws.{constructor-there}
+use Rattle.typing.proofs.SignatureLaws.{constructor-missing, constructor-found}
 use borrow.Author.Needs.{needs}
 use Rattle.typing.proofs.signature.constructor_signature.Statement.{statement}
 use Rattle.typing.proofs.signature.constructor_signature.Tie as tie
@@ -10,32 +10,26 @@ not-found-requires : tie.Need-not-found-requires
 not-found-requires c κs = search needs
 
 returns : tie.Need-returns
-returns c = λ file functions a. constructor-missing a (c .before .before .before .args .c) (c .not-found .ensures) (c .before .if1 .taken)
+returns c =
+    let start = c .before .before .before .before in
+    constructor-missing (start .pre) (start .args .c) (c .not-found .ensures) (c .before .if1 .taken)
 
 wide-requires : tie.Need-wide-requires
 wide-requires c κs = search needs
 
-mul-signature-in : tie.Need-mul-signature-in
-mul-signature-in c = search needs
-
-element-copy-out-signature-in : tie.Need-element-copy-out-signature-in
-element-copy-out-signature-in c =
-    omega (arith, constructors-few (c .before .before .before .pre .2 .tabled .headed), c .wide .ensures .0, c .before .if1 .left)
-
-signature-in-requires : tie.Need-signature-in-requires
-signature-in-requires c κs =
-    let at-wide = c .before in
-    let at-if1 = at-wide .before in
-    let start = at-if1 .before .before in
-    rw (at-wide .wide .ensures .0) (constructor-small (start .pre .2) (start .args .c) (at-if1 .if1 .left))
+constructor-declaration-requires : tie.Need-constructor-declaration-requires
+constructor-declaration-requires c κs =
+    let start = c .before .before .before .before in
+    let there = constructor-there (start .pre) (start .args .c) (c .before .if1 .left) in
+    (start .pre .parsed .verified, rw (c .wide .ensures .0) (omega (arith, there .0)))
 
 returns-2 : tie.Need-returns-2
 returns-2 c =
-    let at-wide = c .before .before in
+    let at-wide = c .before in
     let at-if1 = at-wide .before in
-    let start = at-if1 .before .before in
-    λ file functions a. constructor-found a (start .args .c) (at-if1 .if1 .left)
-    (rw (at-wide .wide .ensures .0) at (c .signature-in .ensures))
+    let start = at-if1 .before .before .before in
+    constructor-found (start .pre) (start .args .c) (at-if1 .if1 .left)
+    (rw (at-wide .wide .ensures .0) at (c .constructor-declaration .ensures))
 
 pub constructor-signature-spec : {M : Type 1} → statement M
 constructor-signature-spec =
@@ -44,7 +38,5 @@ constructor-signature-spec =
     not-found-requires
     returns
     wide-requires
-    mul-signature-in
-    element-copy-out-signature-in
-    signature-in-requires
+    constructor-declaration-requires
     returns-2)

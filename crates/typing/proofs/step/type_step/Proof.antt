@@ -20,8 +20,8 @@ constructor-signature-requires c κs = search needs
 
 make-requires : tie.Need-make-requires
 make-requires c κs =
-    let start = c .before .before .before .before in
-    (start .pre .1, start .pre .2, c .constructor-signature .ensures _ _ (start .pre .0 .1) .few)
+    let start = c .before .before .before .before .before in
+    (start .pre .1, start .pre .2, c .constructor-signature .ensures .few)
 
 enum-known-ins-3 : tie.Need-enum-known-ins-3
 enum-known-ins-3 c = search needs
@@ -31,8 +31,8 @@ function-signature-requires c κs = search needs
 
 make-requires-2 : tie.Need-make-requires-2
 make-requires-2 c κs =
-    let start = c .before .before .before .before in
-    (start .pre .1, start .pre .2, c .function-signature .ensures _ _ (start .pre .0 .1) .few)
+    let start = c .before .before .before .before .before in
+    (start .pre .1, start .pre .2, c .function-signature .ensures .few)
 
 enum-known-ins-4 : tie.Need-enum-known-ins-4
 enum-known-ins-4 c = search needs
@@ -43,13 +43,8 @@ constructor-signature-requires-2 c κs = search needs
 branch-requires : tie.Need-branch-requires
 branch-requires c κs =
     let at-ins4 = c .before .before in
-    let start = at-ins4 .before .before in (
-      start .pre .1,
-      start .pre .2,
-      c .constructor-signature2 .ensures _ _ (start .pre .0 .1) .few,
-      aims-branch (at-ins4 .ins4 .given .1)
-          (start .pre .3),
-    )
+    let start = at-ins4 .before .before .before in
+    (start .pre .1, start .pre .2, c .constructor-signature2 .ensures .few, aims-branch (at-ins4 .ins4 .given .1) (start .pre .3))
 
 enum-told : tie.Need-enum-told
 enum-told c = search needs
@@ -64,29 +59,29 @@ ends-requires : tie.Need-ends-requires
 ends-requires c κs = search needs
 
 returns : tie.Need-returns
-returns c = λ file a g f q. rw (c .before .before .ins .given .1) (c .load .ensures _ g f)
+returns c = λ g f q. rw (c .before .before .ins .given .1) (c .load .ensures _ g f)
 
 returns-2 : tie.Need-returns-2
 returns-2 c =
-    λ file a g f q. rw (c .before .before .before .ins2 .given .1, build-rule)
-    (c .make .ensures _ g f _ _ (c .before .constructor-signature .ensures file _ a))
+    λ g f q. rw (c .before .before .before .ins2 .given .1, build-rule)
+    (c .make .ensures _ g f _ _ (c .before .constructor-signature .ensures))
 
 returns-3 : tie.Need-returns-3
 returns-3 c =
-    λ file a g f q. rw (c .before .before .before .ins3 .given .1, call-rule)
-    (c .make2 .ensures _ g f _ _ (c .before .function-signature .ensures file _ a))
+    λ g f q. rw (c .before .before .before .ins3 .given .1, call-rule)
+    (c .make2 .ensures _ g f _ _ (c .before .function-signature .ensures))
 
 returns-4 : tie.Need-returns-4
 returns-4 c =
-    λ file a g f q. rw (c .before .before .before .ins4 .given .1, branch-rule)
-    (c .branch .ensures _ g f _ (c .before .constructor-signature2 .ensures file _ a))
+    λ g f q. rw (c .before .before .before .ins4 .given .1, branch-rule)
+    (c .branch .ensures _ g f _ (c .before .constructor-signature2 .ensures))
 
 returns-5 : tie.Need-returns-5
-returns-5 c = λ file a g f q. rw (c .before .enum-told .given .1) (c .finish .ensures _ g f _ q)
+returns-5 c = λ g f q. rw (c .before .enum-told .given .1) (c .finish .ensures _ g f _ q)
 
 returns-6 : tie.Need-returns-6
 returns-6 c =
-    λ file a g f q. rw (c .before .enum-told2 .given .1) (stop-says _ g f _ _ (c .ends .ensures) (c .before .before .before .pre .1))
+    λ g f q. rw (c .before .enum-told2 .given .1) (stop-says _ g f _ _ (c .ends .ensures) (c .before .before .before .before .pre .1))
 
 pub type-step-spec : {M : Type 1} → statement M
 type-step-spec =

@@ -12,10 +12,10 @@ use Rattle.typing.proofs.walk.types.Statement.{statement}
 use Rattle.typing.proofs.walk.types.Tie as tie
 
 abbrev Inv-loop : tie.InvT-loop
-Inv-loop file header constructors functions m g₀ g = Passing (atFunction (typesOf (programIn file)) (payload file)) m g
+Inv-loop file header heads m g₀ g = Passing (atFunction (typesOf (programIn file)) (payload file)) m g
 
 abbrev μ-loop : tie.MeasureT-loop
-μ-loop file header constructors functions m g₀ g = m - g
+μ-loop file header heads m g₀ g = m - g
 
 cast-m : tie.Need-cast-m Inv-loop μ-loop
 cast-m c = search needs
@@ -25,12 +25,8 @@ loop-holds c = pass-first
 
 types-of-requires : tie.Need-types-of-requires Inv-loop μ-loop
 types-of-requires c κs =
-    let at-shared-slice-known = c .before .before .before in
-    let start = at-shared-slice-known .before in (
-      start .pre .0,
-      record { tabled = start .pre .1; bytes = λ k. omega (arith, at-shared-slice-known .shared-slice-known .given k) },
-      c .loop-test .taken,
-    )
+    let start = c .before .before .before .before in
+    (start .pre .0, start .pre .1, c .loop-test .taken)
 
 enum-known-found : tie.Need-enum-known-found Inv-loop μ-loop
 enum-known-found c = search needs
