@@ -1,1 +1,2 @@
 pub mod OnwardLaws
+pub mod SpotLaws

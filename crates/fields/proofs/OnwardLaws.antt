@@ -10,9 +10,7 @@ use lib.Seq.{getD-take, getD-drop, getD-append-add, length-take-le}
 use lib.Dec.{ltb}
 use borrow.Author.Tests.{ltb-true, ltb-false}
 use Rattle.rules.specs.Base.{byteAt}
-use Rattle.rules.specs.Container.{payload, placeOf}
-use Rattle.rules.specs.Established.{Verified}
-use Rattle.rules.proofs.ContainerLaws.{verified-place, verified-byte}
+use Rattle.rules.specs.Container.{placeOf}
 use Rattle.rules.proofs.SameLaws.{Same}
 use Rattle.fields.specs.Onward.{onward, Reaches, Placed}
 
@@ -76,7 +74,3 @@ module _ {file bytes : List ℕ} {m : ℕ} (p : Placed file bytes m) (at left n 
       go j l false e =
           rw (zero-add j) (sym (onward-far record-reaches j l (ltb-false j left e))
           ∙ ap (byteAt file) (sym (far-place j l (ltb-false j left e))) ∙ p .same (at + j) (omega arith))
-
--- the payload of verified blocks
-pub payload-placed : {file : List ℕ} → Verified file → Placed file (payload file) (length (payload file))
-payload-placed v = record { inside = verified-place v; same = verified-byte v }

@@ -52,11 +52,12 @@ pub fn declaration(file: &[u8], at: usize) -> Declaration
     requires { ⌜ Verified (now file) × (at + 6 ≤ length (payload (now file))) ⌝ }
     ensures { λ r. ⌜ r ≡ declarationAt (payload (now (file .entry))) at ⌝ }
 {
+    let place = place_of(at);
     let left = left_in_block(at);
     if left >= 6 {
-        return declaration_from(file, place_of(at), 6);
+        return declaration_from(file, place, 6);
     }
-    declaration_from(file, place_of(at), left)
+    declaration_from(file, place, left)
 }
 
 // For the crates above: the declaration of constructor c. The first 62 end in the first block, where the place follows from the number: an
@@ -76,11 +77,12 @@ pub fn constructor(file: &[u8], at: usize) -> ConstructorRecord
     requires { ⌜ Verified (now file) × (at + 8 ≤ length (payload (now file))) ⌝ }
     ensures { λ r. ⌜ r ≡ constructorAt (payload (now (file .entry))) at ⌝ }
 {
+    let place = place_of(at);
     let left = left_in_block(at);
     if left >= 8 {
-        return constructor_from(file, place_of(at), 8);
+        return constructor_from(file, place, 8);
     }
-    constructor_from(file, place_of(at), left)
+    constructor_from(file, place, left)
 }
 
 // For the crates above: the function head at an offset.
@@ -88,11 +90,12 @@ pub fn head(file: &[u8], at: usize) -> HeadRecord
     requires { ⌜ Verified (now file) × (at + 10 ≤ length (payload (now file))) ⌝ }
     ensures { λ r. ⌜ r ≡ headAt (payload (now (file .entry))) at ⌝ }
 {
+    let place = place_of(at);
     let left = left_in_block(at);
     if left >= 10 {
-        return head_from(file, place_of(at), 10);
+        return head_from(file, place, 10);
     }
-    head_from(file, place_of(at), left)
+    head_from(file, place, left)
 }
 
 // For the crates above: the alternative at an offset.
@@ -100,11 +103,12 @@ pub fn alternative(file: &[u8], at: usize) -> AlternativeRecord
     requires { ⌜ Verified (now file) × (at + 6 ≤ length (payload (now file))) ⌝ }
     ensures { λ r. ⌜ r ≡ alternativeAt (payload (now (file .entry))) at ⌝ }
 {
+    let place = place_of(at);
     let left = left_in_block(at);
     if left >= 6 {
-        return alternative_from(file, place_of(at), 6);
+        return alternative_from(file, place, 6);
     }
-    alternative_from(file, place_of(at), left)
+    alternative_from(file, place, left)
 }
 
 // For the crates above: the bytes of the instruction at an offset.
@@ -112,11 +116,12 @@ pub fn instruction_record(file: &[u8], at: usize) -> InstructionRecord
     requires { ⌜ Verified (now file) × (at + 4 ≤ length (payload (now file))) ⌝ }
     ensures { λ r. ⌜ r ≡ instructionAt (payload (now (file .entry))) at ⌝ }
 {
+    let place = place_of(at);
     let left = left_in_block(at);
     if left >= 4 {
-        return instruction_from(file, place_of(at), 4);
+        return instruction_from(file, place, 4);
     }
-    instruction_from(file, place_of(at), left)
+    instruction_from(file, place, left)
 }
 
 // For the crates above: the instruction at an offset, where its record is right.

@@ -14,9 +14,8 @@ use Rattle.rules.specs.Established.{Verified}
 use Rattle.rules.proofs.ContainerLaws.{verified-whole, verified-length, verified-byte}
 use Rattle.rules.proofs.ListLaws.{getD-element}
 use Rattle.rules.proofs.NumberedLaws.{numbered-length, numbered-there}
-use Rattle.rules.proofs.SameLaws.{Same}
-use Rattle.fields.specs.Onward.{onward, Reaches, Placed}
-use Rattle.fields.proofs.OnwardLaws.{record-reaches, record-same}
+use Rattle.fields.specs.Onward.{Placed}
+use Rattle.fields.proofs.SpotLaws.{Spot}
 use Rattle.standing.specs.Found.{lastBlock, extent, standing, whole, Inside, seen}
 
 -- as the code tests it, with no sum that could wrap
@@ -78,15 +77,18 @@ module _ (file : List ℕ) where
     pub inside-whole : at + size ≤ extent file → Inside file (at + size)
     inside-whole h = record { counted = h; small = omega (arith, extent-small) }
 
--- n bytes at an offset that are there, as the code finds them: the place of the first, and how many its block has left
-module _ {file : List ℕ} (at n : ℕ) (there : Inside file (at + n)) (some : 1 ≤ n) (short : n ≤ 504) {place left : ℕ}
-    (is : place ≡ placeOf at) (room : left ≡ 504 - at % 504) where
-  pub found-reaches : Reaches file place left n
-  found-reaches =
-      rw is (record-reaches (standing-placed file) at left n (there .counted) some short (omega arith) (λ l. room))
-
-  pub found-same : Same (onward file place left) 0 (standing file) at n
-  found-same = rw is (record-same (standing-placed file) at left n (there .counted) some short (omega arith) (λ l. room))
+-- n bytes at an offset that are there, as the code finds them
+pub found-spot : {file : List ℕ} {at n place left : ℕ} → Inside file (at + n) → 1 ≤ n → n ≤ 504 → place ≡ placeOf at
+    → left ≡ 504 - at % 504 → Spot file (standing file) at n place left
+found-spot {file} there some short stands room = record {
+  count = extent file;
+  placed = standing-placed file;
+  there = there .counted;
+  some = some;
+  short = short;
+  stands = stands;
+  room = room;
+}
 
 -- of right blocks they are the payload
 standing-payload : (file : List ℕ) → Verified file → standing file ≡ payload file

@@ -1,65 +1,43 @@
 -- The record where it ends in its block, and where it goes on behind it.
-use mathlib.Core.Path.{refl, _∙_}
+use mathlib.Core.Path.{_∙_}
 use native.Mathlib.Omega.{arith}
+use Rattle.rules.specs.Container.{payload}
 use Rattle.rules.proofs.SameLaws.{instruction-same}
-use Rattle.readers.proofs.NearLaws.{reaches, same}
+use Rattle.fields.proofs.SpotLaws.{Spot, near-reaches, near-same, far-reaches, far-same, payload-spot}
 use borrow.Author.Needs.{needs}
 use Rattle.readers.proofs.instruction_record.Statement.{statement}
 use Rattle.readers.proofs.instruction_record.Tie as tie
 
-left-in-block-requires : tie.Need-left-in-block-requires
-left-in-block-requires c κs = search needs
-
 place-of-requires : tie.Need-place-of-requires
 place-of-requires c κs = search needs
 
+left-in-block-requires : tie.Need-left-in-block-requires
+left-in-block-requires c κs = search needs
+
+spot : (c : tie.After-left-in-block) → let a = c .before .before .before .args in
+    Spot (a .file .now) (payload (a .file .now)) (a .at) 4 (c .before .place-of .result) (c .left-in-block .result)
+spot c =
+    payload-spot (c .before .before .before .pre) (omega arith) (omega arith) (c .before .place-of .ensures) (c .left-in-block .ensures)
+
 instruction-from-requires : tie.Need-instruction-from-requires
-instruction-from-requires c κs =
-    let at-if1 = c .before in
-    let at-left = at-if1 .before in
-    let start = at-left .before .before in
-    reaches (start .pre .0) (start .args .at) 4 (start .pre .1) (omega arith) (omega arith) (c .place-of .ensures)
-    (at-left .left-in-block .ensures) (λ l. omega arith)
+instruction-from-requires c κs = near-reaches (spot (c .before)) (c .if1 .taken)
 
 returns : tie.Need-returns
-returns c =
-    let at-place = c .before in
-    let at-if1 = at-place .before in
-    let at-left = at-if1 .before in
-    let start = at-left .before .before in
-    c .instruction-from .ensures
-    ∙ instruction-same (same (start .pre .0) (start .args .at) 4 (start .pre .1) (omega arith) (omega arith)
-    (at-place .place-of .ensures) (at-left .left-in-block .ensures) (at-if1 .if1 .taken) (λ l. absurd (omega arith)))
-
-place-of-requires-2 : tie.Need-place-of-requires-2
-place-of-requires-2 c κs = search needs
+returns c = c .instruction-from .ensures ∙ instruction-same (near-same (spot (c .before .before)) (c .before .if1 .taken))
 
 instruction-from-requires-2 : tie.Need-instruction-from-requires-2
-instruction-from-requires-2 c κs =
-    let at-if1 = c .before in
-    let at-left = at-if1 .before in
-    let start = at-left .before .before in
-    reaches (start .pre .0) (start .args .at) 4 (start .pre .1) (omega arith) (omega arith) (c .place-of2 .ensures)
-    (at-left .left-in-block .ensures) (λ l. omega arith)
+instruction-from-requires-2 c κs = far-reaches (spot (c .before))
 
 returns-2 : tie.Need-returns-2
-returns-2 c =
-    let at-place = c .before in
-    let at-if1 = at-place .before in
-    let at-left = at-if1 .before in
-    let start = at-left .before .before in
-    c .instruction-from2 .ensures
-    ∙ instruction-same (same (start .pre .0) (start .args .at) 4 (start .pre .1) (omega arith) (omega arith)
-    (at-place .place-of2 .ensures) (at-left .left-in-block .ensures) (omega arith) (λ _. refl))
+returns-2 c = c .instruction-from2 .ensures ∙ instruction-same (far-same (spot (c .before .before)))
 
 pub instruction-record-spec : {M : Type 1} → statement M
 instruction-record-spec =
     tie.close
     (tie.spec
-    left-in-block-requires
     place-of-requires
+    left-in-block-requires
     instruction-from-requires
     returns
-    place-of-requires-2
     instruction-from-requires-2
     returns-2)
