@@ -1,14 +1,13 @@
 -- What an expression comes to, with a price for each unit of weight and one for each variable; and where a variable is replaced.
 use mathlib.Core.Path.{_≡_, refl, ap}
 use mathlib.Core.List.{List, [], _∷_, map}
-use mathlib.Core.Option.{Option, none, some}
 use mathlib.Core.Bool.{Bool, true, false}
 use Prim.Native.Nat.{ℕ, zero, suc, _+_, _*_, _≤_, _<_, zero-le}
 use native.Mathlib.Omega.{arith}
 use lib.Dec.{eqb}
 use borrow.Author.Tests.{eqb-true, eq-eqb, ne-eqb}
 use Rattle.rules.specs.Base.{if_then_else_}
-use Rattle.rules.specs.Program.{Constructor, Program, constructor}
+use Rattle.rules.specs.Program.{Program, constructor, weightOf}
 use Rattle.rules.specs.Tree.{Trees, node, nil, cons, fromList}
 use Rattle.rules.specs.Expressions.{Symbol, variable, known, built, called, Expression, variables, replace, replaceAll}
 use Rattle.rules.specs.Quasi.{total}
@@ -19,10 +18,6 @@ one-at x k = if eqb k x then 1 else 0
 
 pub one-at-same : (x : ℕ) → one-at x x ≡ 1
 one-at-same x = rw (eq-eqb x x refl)
-
-abbrev pub weightOf : Option Constructor → ℕ
-weightOf none = 0
-weightOf (some k) = k .weight
 
 ---- What an expression comes to: κ for each unit of a constructor's weight, w k for variable k
 

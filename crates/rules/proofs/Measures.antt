@@ -9,7 +9,7 @@ use native.Mathlib.Nat.{le-trans, le-refl, le-of-eq, mul-le-mul-left}
 use lib.ListN.{length, getD, replicate, set, length-replicate, length-set}
 use lib.Dec.{leb, eqb}
 use borrow.Author.Tests.{leb-true, eqb-true, eq-eqb}
-use Rattle.rules.specs.Program.{Constructor, Function, Program, constructor, function}
+use Rattle.rules.specs.Program.{Constructor, Function, Program, constructor, function, weightOf}
 use Rattle.rules.specs.declared.records.Alternative.{Alternative}
 use Rattle.rules.specs.Tree.{Trees, node, nil, cons}
 use Rattle.rules.specs.Expressions.{Symbol, variable, known, built, called, Expression, EveryIn}
@@ -20,7 +20,7 @@ use Rattle.rules.specs.Values.{dot}
 use Rattle.rules.specs.Facts.{Plain, Unmade}
 use Rattle.rules.proofs.ListLaws.{all-any, all-map, all-mapped, and-left, and-right}
 use Rattle.rules.proofs.FormLaws.{dot-most, all-flatMap}
-use Rattle.rules.proofs.Amounts.{one-at, one-at-same, weightOf, amount, amounts, inAll}
+use Rattle.rules.proofs.Amounts.{one-at, one-at-same, amount, amounts, inAll}
 use Rattle.rules.specs.Quasi.{total}
 
 ---- A measure of alternatives that is linear: κ for each unit of the constant, w k for variable k

@@ -1,6 +1,6 @@
 -- A decoded program: its types, constructors and functions. Document 01 calls it a sheet.
 use mathlib.Core.List.{List}
-use mathlib.Core.Option.{Option}
+use mathlib.Core.Option.{Option, none, some}
 use Prim.Native.Nat.{ℕ}
 use lib.ListN.{length, getElem?}
 use Rattle.rules.specs.declared.records.Alternative.{Alternative}
@@ -31,6 +31,11 @@ arity f = length (f .parameters)
 -- "Numbers start at 0 for types, constructors and functions"
 abbrev pub constructor : Program → ℕ → Option Constructor
 constructor s c = getElem? (s .constructors) c
+
+-- the weight of what is found, 0 of nothing
+abbrev pub weightOf : Option Constructor → ℕ
+weightOf none = 0
+weightOf (some k) = k .weight
 
 abbrev pub function : Program → ℕ → Option Function
 function s f = getElem? (s .functions) f

@@ -13,16 +13,18 @@ use lib.Dec.{eqb, ltb}
 use borrow.Author.Tests.{le-leb, lt-leb, eqb-true, eqb-false, ltb-true, ltb-false}
 use Rattle.rules.specs.declared.records.Alternative.{Alternative}
 use Rattle.rules.specs.Base.{all, any}
+use Rattle.rules.specs.Program.{Program}
+use Rattle.rules.specs.Records.{programIn}
 use Rattle.rules.specs.Forms.{Form, atMost, matches, added, constantOnly, variableOnly}
 use Rattle.sizing.specs.declared.splits.Split.{Split}
 use Rattle.sizing.specs.Put.{coefficient, cleared, put, Wide, AllWide, Bounded, noAlternative}
-use Rattle.sizing.specs.Splits.{spanned, splitA, carried, Tidy, Loose, Numbered, Carrying, noSplit}
+use Rattle.sizing.specs.Splits.{spanned, weightIn, splitA, carried, Tidy, Loose, Numbered, SplitAsks, Carrying, noSplit}
 use Rattle.sizing.proofs.PutLaws.{cleared-below, alternative-ext, added-wide, added-at, added-constant, constant-wide, constant-at}
 use Rattle.sizing.proofs.PutLaws.{variable-wide, variable-same, variable-other, variable-constant, put-other-variable, put-at}
 use Rattle.sizing.proofs.PutLaws.{put-wide, put-constant}
 use Rattle.rules.proofs.ListLaws.{all-at}
 use Rattle.sizing.proofs.ListLaws.{element-at}
-use Rattle.sizing.proofs.SplitLaws.{spanned-wide, spanned-low, spanned-in, spanned-high, numbered-le}
+use Rattle.sizing.proofs.SplitLaws.{spanned-wide, split-wide, spanned-low, spanned-in, spanned-high, numbered-le}
 
 ---- Matching
 
@@ -146,35 +148,36 @@ unfolding spanned added variableOnly constantOnly
 spanned-constant k zero w = refl
 spanned-constant k (suc n) w = omega (arith, spanned-constant (suc k) n w)
 
-put-tidy : (n k : ℕ) (a : Alternative) (p : Split) → Tidy n k a → p .variable < n → p .first ≡ n → n + p .parts ≤ 16 → p .weight ≤ 255
-    → Tidy (n + p .parts) (k + 3825) (put (p .variable) (splitA p) a)
-put-tidy n k a p h v f l w =
+put-tidy : (s : Program) (n k : ℕ) (a : Alternative) (p : Split) → Tidy n k a → p .variable < n → p .first ≡ n → n + p .parts ≤ 16
+    → weightIn s p ≤ 255
+    → Tidy (n + p .parts) (k + 3825) (put (p .variable) (splitA s p) a)
+put-tidy s n k a p h v f l w =
     record {
-      wide = put-wide (p .variable) (splitA p) a sw (h .wide);
-      most = λ i. rw (put-at (p .variable) (splitA p) a i sw (h .wide)) (go i (ltb i n) refl (ltb i (n + p .parts)) refl);
+      wide = put-wide (p .variable) (splitA s p) a sw (h .wide);
+      most = λ i. rw (put-at (p .variable) (splitA s p) a i sw (h .wide)) (go i (ltb i n) refl (ltb i (n + p .parts)) refl);
       none =
-          λ i g. rw (put-at (p .variable) (splitA p) a i sw (h .wide), spanned-high (p .first) (p .parts) (p .weight) i (omega arith))
+          λ i g. rw (put-at (p .variable) (splitA s p) a i sw (h .wide), spanned-high (p .first) (p .parts) (weightIn s p) i (omega arith))
           (omega (arith, cleared-below (p .variable) a i, h .none i (omega arith)));
-      constant = rw (put-constant (p .variable) (splitA p) a) (omega (arith, h .constant, cost));
+      constant = rw (put-constant (p .variable) (splitA s p) a) (omega (arith, h .constant, cost));
     }
   where
-    sw : Wide (splitA p)
-    sw = spanned-wide (p .first) (p .parts) (p .weight)
+    sw : Wide (splitA s p)
+    sw = split-wide s p
 
-    cost : coefficient a (p .variable) * splitA p .constant ≤ 3825
-    cost = rw (spanned-constant (p .first) (p .parts) (p .weight)) (mul-le-mul {n₂ = 15} {m₂ = 255} (h .most (p .variable)) w)
+    cost : coefficient a (p .variable) * splitA s p .constant ≤ 3825
+    cost = rw (spanned-constant (p .first) (p .parts) (weightIn s p)) (mul-le-mul {n₂ = 15} {m₂ = 255} (h .most (p .variable)) w)
 
     go : (i : ℕ) (t : Bool) → ltb i n ≡ t → (u : Bool) → ltb i (n + p .parts) ≡ u
-        → coefficient (cleared (p .variable) a) i + coefficient a (p .variable) * coefficient (splitA p) i ≤ 15
+        → coefficient (cleared (p .variable) a) i + coefficient a (p .variable) * coefficient (splitA s p) i ≤ 15
     go i true e u g =
-        rw (spanned-low (p .first) (p .parts) (p .weight) i (omega (arith, ltb-true i n e)))
+        rw (spanned-low (p .first) (p .parts) (weightIn s p) i (omega (arith, ltb-true i n e)))
         (omega (arith, cleared-below (p .variable) a i, h .most i))
     go i false e true g =
-        rw (spanned-in (p .first) (p .parts) (p .weight) i (omega arith) (omega (arith, ltb-false i n e))
+        rw (spanned-in (p .first) (p .parts) (weightIn s p) i (omega arith) (omega (arith, ltb-false i n e))
         (omega (arith, ltb-true i (n + p .parts) g)))
         (omega (arith, cleared-below (p .variable) a i, h .none i (ltb-false i n e), h .most (p .variable)))
     go i false e false g =
-        rw (spanned-high (p .first) (p .parts) (p .weight) i (omega (arith, ltb-false i (n + p .parts) g)))
+        rw (spanned-high (p .first) (p .parts) (weightIn s p) i (omega (arith, ltb-false i (n + p .parts) g)))
         (omega (arith, cleared-below (p .variable) a i, h .most i))
 
 unit-tidy : (n k v : ℕ) → v < n → v < 16 → Tidy n k (variableOnly v)
@@ -203,34 +206,35 @@ loose-below n k j a l (inr x) =
     let t = unit-tidy (suc (x .0)) k (x .0) (omega arith) (x .3) in
     rw (x .1) (t .wide, t .most, le-trans (t .constant) l)
 
-pub put-loose : (n k : ℕ) (a : Alternative) (p : Split) → Loose n k a → p .variable < n → p .first ≡ n → n + p .parts ≤ 16 → p .weight ≤ 255
-    → Loose (n + p .parts) (k + 3825) (put (p .variable) (splitA p) a)
-put-loose n k a p (inl t) v f l w = inl (put-tidy n k a p t v f l w)
-put-loose n k a p (inr x) v f l w =
+pub put-loose : (s : Program) (n k : ℕ) (a : Alternative) (p : Split) → Loose n k a → p .variable < n → p .first ≡ n → n + p .parts ≤ 16
+    → weightIn s p ≤ 255
+    → Loose (n + p .parts) (k + 3825) (put (p .variable) (splitA s p) a)
+put-loose s n k a p (inl t) v f l w = inl (put-tidy s n k a p t v f l w)
+put-loose s n k a p (inr x) v f l w =
     let u = x .0 in
     let ge = x .2 in
-    let e : put (p .variable) (splitA p) a ≡ variableOnly u =
-    ap (put (p .variable) (splitA p)) (x .1)
-    ∙ put-other-variable (p .variable) (splitA p) u (spanned-wide (p .first) (p .parts) (p .weight)) (λ z. omega arith) in
+    let e : put (p .variable) (splitA s p) a ≡ variableOnly u =
+    ap (put (p .variable) (splitA s p)) (x .1)
+    ∙ put-other-variable (p .variable) (splitA s p) u (split-wide s p) (λ z. omega arith) in
     rw e (loose-unit (n + p .parts) (k + 3825) u (x .3))
 
 ---- All splits, one after the other
 
-carried-next : (xs : List Split) (i : ℕ) (r : Alternative) → i < length xs
-    → carried (drop i xs) r ≡ carried (drop (i + 1) xs) (put (getD xs i noSplit .variable) (splitA (getD xs i noSplit)) r)
+carried-next : (s : Program) (xs : List Split) (i : ℕ) (r : Alternative) → i < length xs
+    → carried s (drop i xs) r ≡ carried s (drop (i + 1) xs) (put (getD xs i noSplit .variable) (splitA s (getD xs i noSplit)) r)
 unfolding carried
-carried-next xs i r h = rw (add-one i, drop-cons xs i noSplit h)
+carried-next s xs i r h = rw (add-one i, drop-cons xs i noSplit h)
 
-pub carried-end : (xs : List Split) (i : ℕ) (r : Alternative) → length xs ≤ i → carried (drop i xs) r ≡ r
+pub carried-end : (s : Program) (xs : List Split) (i : ℕ) (r : Alternative) → length xs ≤ i → carried s (drop i xs) r ≡ r
 unfolding carried
-carried-end xs i r h = rw (drop-of-length-le xs h)
+carried-end s xs i r h = rw (drop-of-length-le xs h)
 
 numbered-next : (xs : List Split) (i m count : ℕ) → i < length xs → Numbered m (drop i xs) count
     → (getD xs i noSplit .variable < m) × (getD xs i noSplit .first ≡ m) × Numbered (m + getD xs i noSplit .parts) (drop (i + 1) xs) count
 numbered-next xs i m count h n = rw (add-one i) (rw (drop-cons xs i noSplit h) at n)
 
-module _ (a r : Alternative) (t : ℕ) (ps : List Split) (h : Carrying a t ps) (i m : ℕ) (l : i < t) (y : Loose m (65535 + 3825 * i) r)
-    (n : Numbered m (drop i (take t ps)) (h .count)) where
+module _ {file : List ℕ} {a r : Alternative} {t : ℕ} {ps : List Split} (h : Carrying file a t ps) {i m : ℕ} (l : i < t)
+    (y : Loose m (65535 + 3825 * i) r) (n : Numbered m (drop i (take t ps)) (h .count)) where
   taken-length : length (take t ps) ≡ t
   taken-length = let a = h .long in let b = h .few in length-take-le t ps (omega arith)
 
@@ -241,24 +245,31 @@ module _ (a r : Alternative) (t : ℕ) (ps : List Split) (h : Carrying a t ps) (
   carrying-fits : m + getD ps i noSplit .parts ≤ 16
   carrying-fits = le-trans (numbered-le (drop (i + 1) (take t ps)) (m + getD ps i noSplit .parts) (h .count) (numbered-here .2)) (h .narrow)
 
-  pub carrying-asks : (getD ps i noSplit .variable < 16) × (getD ps i noSplit .first + getD ps i noSplit .parts ≤ 16) × Bounded 15 1048576 r
+  pub carrying-asks : SplitAsks file r (getD ps i noSplit)
   carrying-asks =
       let f = carrying-fits in
       let q = numbered-here in
       let g = h .few in
-      (omega (arith, q .0), omega (arith, q .1), loose-below m (65535 + 3825 * i) 1048576 r (omega arith) y)
+      record {
+        variable = omega (arith, q .0);
+        parts = omega (arith, q .1);
+        bounded = loose-below m (65535 + 3825 * i) 1048576 r (omega arith) y;
+        weight = h .weights i l;
+      }
 
-  pub carrying-next : (m′ : ℕ) × Loose m′ (65535 + 3825 * (i + 1)) (put (getD ps i noSplit .variable) (splitA (getD ps i noSplit)) r)
+  pub carrying-next : (m′ : ℕ)
+      × Loose m′ (65535 + 3825 * (i + 1)) (put (getD ps i noSplit .variable) (splitA (programIn file) (getD ps i noSplit)) r)
       × Numbered m′ (drop (i + 1) (take t ps)) (h .count)
   carrying-next =
       let q = numbered-here in
       let e : 65535 + 3825 * (i + 1) ≡ 65535 + 3825 * i + 3825 = omega arith in (
         m + getD ps i noSplit .parts,
-        rw e (put-loose m (65535 + 3825 * i) r (getD ps i noSplit) y (q .0) (q .1) carrying-fits
-            (h .light i l)),
+        rw e (put-loose (programIn file) m (65535 + 3825 * i) r (getD ps i noSplit) y (q .0) (q .1) carrying-fits
+            (h .weights i l .light)),
         q .2,
       )
 
-  pub carrying-left : carried (drop i (take t ps)) r
-      ≡ carried (drop (i + 1) (take t ps)) (put (getD ps i noSplit .variable) (splitA (getD ps i noSplit)) r)
-  carrying-left = let e = taken-length in rw (getD-take t ps i noSplit l) at (carried-next (take t ps) i r (omega arith))
+  pub carrying-left : carried (programIn file) (drop i (take t ps)) r
+      ≡ carried (programIn file) (drop (i + 1) (take t ps))
+      (put (getD ps i noSplit .variable) (splitA (programIn file) (getD ps i noSplit)) r)
+  carrying-left = let e = taken-length in rw (getD-take t ps i noSplit l) at (carried-next (programIn file) (take t ps) i r (omega arith))

@@ -2,23 +2,24 @@
 use mathlib.Core.Path.{_≡_, refl, sym, ap, _∙_}
 use mathlib.Core.List.{List, [], _∷_, map, map-map}
 use mathlib.Core.Logic.{inl}
-use mathlib.Core.Option.{none, some}
 use Prim.Native.Nat.{ℕ, zero, suc, _+_, _*_, _≤_, _<_}
 use native.Mathlib.Omega.{arith}
 use native.Mathlib.Nat.{zero-add}
 use lib.ListN.{length, getD, set, take, length-map, length-set}
 use lib.Seq.{getD-take, length-take-le, ext-getD}
 use Rattle.rules.specs.declared.records.Alternative.{Alternative}
-use Rattle.rules.specs.Program.{Constructor, Function, Program, arity, constructor}
+use Rattle.rules.specs.Container.{payload}
+use Rattle.rules.specs.Program.{Function, Program, arity}
 use Rattle.rules.specs.Forms.{variableOnly, formOf}
 use Rattle.sizing.specs.declared.forms.Form.{Form}
 use Rattle.sizing.specs.declared.splits.Split.{Split}
 use Rattle.sizing.specs.declared.paths.Saved.{Saved}
 use Rattle.sizing.specs.Put.{coefficient, put, AllBounded, widened}
 use Rattle.rules.specs.Lists.{All}
-use Rattle.sizing.specs.Splits.{variableE, through, splitA, carried, SplitsRight, Numbered, Tidy, Loose, Carrying, noSplit}
+use Rattle.sizing.specs.Splits.{variableE, through, weightIn, splitA, carried, SplitRight, SplitsRight, Numbered, Tidy, Loose}
+use Rattle.sizing.specs.Splits.{WeightThere, Carrying, noSplit}
 use Rattle.sizing.specs.States.{stackIn, splitsIn}
-use Rattle.rules.specs.Records.{alternativeOf}
+use Rattle.rules.specs.Records.{alternativeOf, programIn}
 use Rattle.rules.proofs.ListLaws.{all-mapped, stored-each}
 use Rattle.rules.proofs.NumberedLaws.{numbered-all}
 use Rattle.sizing.specs.declared.bounds.Bound.{Bound}
@@ -26,38 +27,25 @@ use Rattle.sizing.specs.Forms.{formIn, noForm}
 use Rattle.sizing.specs.Bounds.{rowIn, boundIn, BoundRight}
 use Rattle.sizing.specs.Right.{ownAt, shapeIn, SavedRight, LineRight}
 use Rattle.sizing.specs.Steps.{EntryAsks, EntryIs, FormsAre, ownRow, OwnAsks, ownAfter, OwnIs}
-use Rattle.sizing.proofs.SplitLaws.{form-through, numbered-le}
+use Rattle.sizing.proofs.SplitLaws.{form-through, numbered-le, split-at}
 use Rattle.sizing.proofs.CodeLaws.{put-loose, loose-unit, loose-below}
 use Rattle.sizing.proofs.OwnLaws.{own-through, own-rows, variable-form, wideRow, RowFits, widened-wide, widened-constant, widened-at}
 use Rattle.sizing.proofs.ListLaws.{getD-of-map, map-numbered, numbered-same}
 use Rattle.sizing.proofs.StepLaws.{under-get}
 
--- what decoding gives
-abbrev pub ByteWeights : Program → Type 0
-ByteWeights s = (c : ℕ) (k : Constructor) → constructor s c ≡ some k → k .weight ≤ 255
+-- the weight of every split's constructor can be read
+abbrev pub Weights : List ℕ → Type 0
+Weights file = (p : Split) → SplitRight (programIn file) p → WeightThere file p
 
-abbrev AllLight : List Split → Type 0
-AllLight [] = Unit {0}
-AllLight (p ∷ ps) = (p .weight ≤ 255) × AllLight ps
-
-light-of : (s : Program) → ByteWeights s → (ps : List Split) → SplitsRight s ps → AllLight ps
-light-of s l [] r = tt
-light-of s l (p ∷ ps) r = (rw (r .0 .weight) at (l (p .constructor) (r .0 .declared-as) (r .0 .known)), light-of s l ps (r .1))
-
-light-at : (ps : List Split) (i : ℕ) → i < length ps → AllLight ps → getD ps i noSplit .weight ≤ 255
-light-at [] i h w = absurd (omega arith)
-light-at (p ∷ ps) zero h w = w .0
-light-at (p ∷ ps) (suc i) h w = light-at ps i (omega arith) (w .1)
-
-carried-loose : (ps : List Split) (n count k : ℕ) (a : Alternative) → Numbered n ps count → count ≤ 16 → AllLight ps → Loose n k a
-    → Loose count (k + 3825 * length ps) (carried ps a)
+carried-loose : {s : Program} → ((p : Split) → SplitRight s p → weightIn s p ≤ 255) → (ps : List Split) (n count k : ℕ) (a : Alternative)
+    → SplitsRight s ps → Numbered n ps count → count ≤ 16 → Loose n k a → Loose count (k + 3825 * length ps) (carried s ps a)
 unfolding carried
-carried-loose [] n count k a h l w t = let e : k + 3825 * 0 ≡ k = omega arith in rw (e, ← h) t
-carried-loose (p ∷ ps) n count k a h l w t =
+carried-loose light [] n count k a r h l t = let e : k + 3825 * 0 ≡ k = omega arith in rw (e, ← h) t
+carried-loose {s} light (p ∷ ps) n count k a r h l t =
     let e : k + 3825 * suc (length ps) ≡ k + 3825 + 3825 * length ps = omega arith in
     let g = numbered-le ps (n + p .parts) count (h .2) in
-    rw e (carried-loose ps (n + p .parts) count (k + 3825) (put (p .variable) (splitA p) a) (h .2) l (w .1)
-    (put-loose n k a p t (h .0) (h .1) (omega arith) (w .0)))
+    rw e (carried-loose light ps (n + p .parts) count (k + 3825) (put (p .variable) (splitA s p) a) (r .1) (h .2) l
+    (put-loose s n k a p t (h .0) (h .1) (omega arith) (light p (r .0))))
 
 row-tidy : (n : ℕ) (a : Alternative) → n ≤ 16 → RowFits n a → Tidy n 65535 (wideRow a)
 row-tidy n a few r =
@@ -91,13 +79,16 @@ rows-fit {bytes} {n} {b} o is =
     rw (← is) (numbered-all (λ k. alternativeOf n (rowIn bytes b k)) (b .count) 0 (λ k l. rw (zero-add k) (o .fits k l)))
 
 -- one more entry has its form
-pub forms-next : {st : Saved} {n : ℕ} {fs : List Form} {x : Form} → FormsAre st n fs → n < 20 → EntryIs st n x
-    → FormsAre st (n + 1) (set fs n x)
-forms-next {st} {n} {fs} {x} a l e =
+pub forms-next : {file : List ℕ} {st : Saved} {n : ℕ} {fs : List Form} {x : Form} → FormsAre file st n fs → n < 20
+    → EntryIs file st n x → FormsAre file st (n + 1) (set fs n x)
+forms-next {file} {st} {n} {fs} {x} a l e =
     let long = a .long in
-    record { long = length-set fs n x ∙ a .long; each = stored-each noForm (EntryIs st) fs n x (omega arith) (a .each) e }
+    record { long = length-set fs n x ∙ a .long; each = stored-each noForm (EntryIs file st) fs n x (omega arith) (a .each) e }
 
-module _ (s : Program) (f : Function) (st : Saved) (r : SavedRight s f st) (light : ByteWeights s) where
+module _ (file : List ℕ) (f : Function) (st : Saved) (r : SavedRight (programIn file) f st) (weights : Weights file) where
+  abbrev s : Program
+  s = programIn file
+
   splits-length : length (splitsIn st) ≡ st .taken
   splits-length = let a = r .list in let b = r .few in length-take-le (st .taken) (st .list) (omega arith)
 
@@ -105,7 +96,7 @@ module _ (s : Program) (f : Function) (st : Saved) (r : SavedRight s f st) (ligh
   stack-length = let a = r .long in let b = r .high in length-take-le (st .height) (st .stack) (omega arith)
 
   -- what `carry` asks
-  carrying-of : (a : Alternative) → Loose (arity f) 65535 a → Carrying a (st .taken) (st .list)
+  carrying-of : (a : Alternative) → Loose (arity f) 65535 a → Carrying file a (st .taken) (st .list)
   carrying-of a h =
       record {
         start = arity f;
@@ -115,10 +106,10 @@ module _ (s : Program) (f : Function) (st : Saved) (r : SavedRight s f st) (ligh
         loose = h;
         numbered = r .path .numbered;
         long = r .list;
-        light =
+        weights =
             λ i l. let z = splits-length in
             rw (getD-take (st .taken) (st .list) i noSplit l)
-            at (light-at (splitsIn st) i (omega arith) (light-of s light (splitsIn st) (r .path .right)));
+            at (weights (getD (splitsIn st) i noSplit) (split-at s (splitsIn st) i (omega arith) (r .path .right)));
       }
 
   -- what is on the stack has come up
@@ -127,7 +118,7 @@ module _ (s : Program) (f : Function) (st : Saved) (r : SavedRight s f st) (ligh
       let z = stack-length in
       rw (getD-take (st .height) (st .stack) i 0 h) at (under-get (st .count) (stackIn st) i (omega arith) (r .under))
 
-  pub entry-asks : (i : ℕ) → i < st .height → EntryAsks st i
+  pub entry-asks : (i : ℕ) → i < st .height → EntryAsks file st i
   entry-asks i h =
       let high = r .high in
       let small : getD (st .stack) i 0 < 16 = omega (arith, come-up i h, r .path .few) in
@@ -137,11 +128,11 @@ module _ (s : Program) (f : Function) (st : Saved) (r : SavedRight s f st) (ligh
         carrying = carrying-of (variableOnly (getD (st .stack) i 0)) (loose-unit (arity f) 65535 (getD (st .stack) i 0) small);
       }
 
-  form-at : (v : ℕ) → formOf s (through (splitsIn st) (variableE v)) ≡ carried (splitsIn st) (variableOnly v) ∷ []
-  form-at v = form-through s (splitsIn st) (r .path .right) (variableE v) ∙ ap (map (carried (splitsIn st))) (variable-form s v)
+  form-at : (v : ℕ) → formOf s (through (splitsIn st) (variableE v)) ≡ carried s (splitsIn st) (variableOnly v) ∷ []
+  form-at v = form-through s (splitsIn st) (r .path .right) (variableE v) ∙ ap (map (carried s (splitsIn st))) (variable-form s v)
 
   -- the forms of the stack
-  stack-same : (fs : List Form) → FormsAre st (st .height) fs
+  stack-same : (fs : List Form) → FormsAre file st (st .height) fs
       → map (formOf s) (map (λ v. through (splitsIn st) (variableE v)) (stackIn st)) ≡ map formIn (take (st .height) fs)
   stack-same fs a =
       ext-getD [] (map (formOf s) (map (λ v. through (splitsIn st) (variableE v)) (stackIn st))) (map formIn (take (st .height) fs))
@@ -152,7 +143,7 @@ module _ (s : Program) (f : Function) (st : Saved) (r : SavedRight s f st) (ligh
       ∙ ap (formOf s) (getD-of-map (λ v. through (splitsIn st) (variableE v)) (stackIn st) i 0 (through (splitsIn st) (variableE 0))
       (let y = stack-length in omega arith))
       ∙ form-at (getD (stackIn st) i 0)
-      ∙ ap (λ (v : ℕ). carried (splitsIn st) (variableOnly v) ∷ []) (getD-take (st .height) (st .stack) i 0 h)
+      ∙ ap (λ (v : ℕ). carried s (splitsIn st) (variableOnly v) ∷ []) (getD-take (st .height) (st .stack) i 0 h)
       ∙ sym (getD-of-map formIn (take (st .height) fs) i noForm [] (let y = fs-length in omega arith)
       ∙ ap formIn (getD-take (st .height) fs i noForm h) ∙ a .each i h .same))
     where
@@ -168,30 +159,30 @@ module _ (s : Program) (f : Function) (st : Saved) (r : SavedRight s f st) (ligh
       second = length-map (take (st .height) fs) formIn ∙ fs-length
 
   -- the function's own bound, as the code has it
-  module _ (few : arity f ≤ 16) (bytes : List ℕ) (b : Bound) (o : OwnBound bytes (arity f) b)
-      (is : boundIn bytes (arity f) b ≡ f .bound) where
-    pub own-asks : OwnAsks bytes b (record { taken = st .taken; list = st .list })
+  module _ (few : arity f ≤ 16) (b : Bound) (o : OwnBound (payload file) (arity f) b)
+      (is : boundIn (payload file) (arity f) b ≡ f .bound) where
+    pub own-asks : OwnAsks file b (record { taken = st .taken; list = st .list })
     own-asks = record {
       bound = o .right;
       carrying =
-          λ k h. carrying-of (ownRow (rowIn bytes b k))
-          (rw (o .padded k h) (inl (row-tidy (arity f) (alternativeOf (arity f) (rowIn bytes b k)) few (o .fits k h))));
+          λ k h. carrying-of (ownRow (rowIn (payload file) b k))
+          (rw (o .padded k h) (inl (row-tidy (arity f) (alternativeOf (arity f) (rowIn (payload file) b k)) few (o .fits k h))));
     }
 
     own-below : (bound : List Alternative) → All (RowFits (arity f)) bound
-        → AllBounded 15 131072 (map (carried (splitsIn st)) (map wideRow bound))
+        → AllBounded 15 131072 (map (carried s (splitsIn st)) (map wideRow bound))
     own-below bound w =
         let z = splits-length in let y = r .few in
-        all-mapped (carried (splitsIn st)) (λ a h. h)
+        all-mapped (carried s (splitsIn st)) (λ a h. h)
         (all-mapped wideRow
-        (λ a h. loose-below (st .count) (65535 + 3825 * length (splitsIn st)) 131072 (carried (splitsIn st) (wideRow a)) (omega arith)
-        (carried-loose (splitsIn st) (arity f) (st .count) 65535 (wideRow a) (r .path .numbered) (r .path .few)
-        (light-of s light (splitsIn st) (r .path .right)) (inl (row-tidy (arity f) a few h))))
+        (λ a h. loose-below (st .count) (65535 + 3825 * length (splitsIn st)) 131072 (carried s (splitsIn st) (wideRow a)) (omega arith)
+        (carried-loose (λ p q. weights p q .light) (splitsIn st) (arity f) (st .count) 65535 (wideRow a) (r .path .right)
+        (r .path .numbered) (r .path .few) (inl (row-tidy (arity f) a few h))))
         w)
 
     -- all entries are covered, and small
-    pub converted : (fs : List Form) (own : Form) → FormsAre st (st .height) fs
-        → OwnIs bytes b (record { taken = st .taken; list = st .list }) own → LineRight s f (shapeIn f st) own fs (st .height)
+    pub converted : (fs : List Form) (own : Form) → FormsAre file st (st .height) fs
+        → OwnIs file b (record { taken = st .taken; list = st .list }) own → LineRight s f (shapeIn f st) own fs (st .height)
     converted fs own a w =
         record {
           bound = w .right;
@@ -207,13 +198,14 @@ module _ (s : Program) (f : Function) (st : Saved) (r : SavedRight s f st) (ligh
           same = stack-same fs a;
         }
       where
-        own-is : formIn own ≡ map (carried (splitsIn st)) (ownAt s f)
+        own-is : formIn own ≡ map (carried s (splitsIn st)) (ownAt s f)
         own-is =
             w .same
-            ∙ numbered-same (ownAfter bytes b (record { taken = st .taken; list = st .list }))
-            (λ k. carried (splitsIn st) (wideRow (alternativeOf (arity f) (rowIn bytes b k)))) (b .count)
-            (λ k h. ap (carried (splitsIn st)) (o .padded k h))
-            ∙ sym (map-numbered (λ a. carried (splitsIn st) (wideRow a)) (λ k. alternativeOf (arity f) (rowIn bytes b k)) (b .count) 0)
-            ∙ ap (map (λ a. carried (splitsIn st) (wideRow a))) is
-            ∙ sym (map-map (carried (splitsIn st)) wideRow (f .bound))
-            ∙ ap (map (carried (splitsIn st))) (sym (own-rows s (arity f) (f .bound) (rows-fit o is)))
+            ∙ numbered-same (ownAfter file b (record { taken = st .taken; list = st .list }))
+            (λ k. carried s (splitsIn st) (wideRow (alternativeOf (arity f) (rowIn (payload file) b k)))) (b .count)
+            (λ k h. ap (carried s (splitsIn st)) (o .padded k h))
+            ∙ sym (map-numbered (λ a. carried s (splitsIn st) (wideRow a)) (λ k. alternativeOf (arity f) (rowIn (payload file) b k))
+            (b .count) 0)
+            ∙ ap (map (λ a. carried s (splitsIn st) (wideRow a))) is
+            ∙ sym (map-map (carried s (splitsIn st)) wideRow (f .bound))
+            ∙ ap (map (carried s (splitsIn st))) (sym (own-rows s (arity f) (f .bound) (rows-fit o is)))

@@ -1,5 +1,5 @@
 -- What a file whose records are right and which 6, 7 and 8 pass gives: its functions, constructors and bounds as the code reads them.
-use mathlib.Core.Path.{_≡_, refl, ap, _∙_}
+use mathlib.Core.Path.{_≡_, refl, sym, ap, _∙_}
 use mathlib.Core.List.{List, [], _∷_}
 use mathlib.Core.Option.{some}
 use mathlib.Core.Bool.{true}
@@ -31,7 +31,7 @@ use Rattle.sizing.specs.Routines.{BoundIs}
 use Rattle.sizing.specs.Walking.{Walking}
 use Rattle.sizing.proofs.ListLaws.{element-at, numbered-same}
 use Rattle.sizing.proofs.OwnLaws.{widened-past}
-use Rattle.sizing.proofs.ConvertLaws.{ByteWeights, OwnBound}
+use Rattle.sizing.proofs.ConvertLaws.{Weights, OwnBound}
 use Rattle.rules.proofs.EachLaws.{each-from-0, each-from-1}
 use Rattle.rules.proofs.Accepted.{FlowsRightly, flows-rightly}
 
@@ -56,8 +56,15 @@ module _ {file heads : List ℕ} (w : Walking file heads) where
       ap (λ (y : Constructor). length (y .arguments)) (r .1) ∙ arguments-length (payload file) (constructorOffset c) four in
       (long, omega arith, ap (λ (y : Constructor). y .weight) (r .1))
 
-  pub light : ByteWeights (programIn file)
+  pub light : (c : ℕ) (k : Constructor) → constructor (programIn file) c ≡ some k → k .weight ≤ 255
   light c k e = omega (arith, constructor-read c k e .2, byte-small (w .records .verified) (w .records .bytes) (constructorOffset c + 6))
+
+  pub weights : Weights file
+  weights p r = record {
+    there = w .records .there .constructor (p .constructor) (constructor-named (p .constructor) (r .declared-as) (r .known) .0) .0;
+    weight = rw (r .known) (sym (constructor-read (p .constructor) (r .declared-as) (r .known) .2));
+    light = rw (r .known) (light (p .constructor) (r .declared-as) (r .known));
+  }
 
   ---- Functions
 

@@ -12,13 +12,13 @@ use Rattle.rules.specs.declared.answers.Checked.{Checked}
 use Rattle.rules.specs.declared.answers.Checked.the-variants as checked
 use Rattle.rules.specs.declared.answers.Reason.{Reason}
 use Rattle.rules.specs.declared.answers.Reason.the-variants.{TooManyForms}
-use Rattle.rules.specs.declared.records.ConstructorRecord.{ConstructorRecord}
+use Rattle.rules.specs.declared.records.Declaration.{Declaration}
 use Rattle.rules.specs.declared.records.Instruction.{Instruction}
 use Rattle.rules.specs.declared.records.Instruction.the-variants.{Load, Branch}
 use Rattle.rules.specs.Base.{refusal, found, refused, if_then_else_}
 use Rattle.rules.specs.Container.{payload}
-use Rattle.rules.specs.Program.{Constructor, Program, arity, constructor}
-use Rattle.rules.specs.Records.{constructorAt, constructorOffset, programIn, functionIn}
+use Rattle.rules.specs.Program.{Constructor, arity, constructor}
+use Rattle.rules.specs.Records.{declarationAt, constructorOffset, programIn, functionIn}
 use Rattle.rules.specs.Walk.{Arrow, arriving, first}
 use Rattle.rules.specs.Shapes.{Shape, shapeFrom, shapeRule}
 use Rattle.rules.specs.Answers.{refusalOf}
@@ -30,7 +30,7 @@ use Rattle.sizing.specs.declared.routines.Routine.{Routine}
 use Rattle.sizing.specs.declared.line.Straight.{Straight}
 use Rattle.sizing.specs.declared.line.Straight.the-variants as straight
 use Rattle.sizing.specs.declared.walk.Moved.{Moved}
-use Rattle.sizing.specs.Splits.{SplitRight, SplitsRight, Numbered, noSplit}
+use Rattle.sizing.specs.Splits.{Numbered, noSplit}
 use Rattle.sizing.specs.States.{stackIn, splitsIn, SameSplits}
 use Rattle.sizing.specs.Right.{shapeIn}
 use Rattle.sizing.specs.Steps.{given, arrowsOf, BranchAsks, BranchSays, Branching}
@@ -44,7 +44,7 @@ use Rattle.sizing.proofs.FileLaws.{constructor-named, constructor-read,
 use Rattle.sizing.proofs.ShapeLaws.{rule-from}
 use Rattle.sizing.proofs.StepLaws.{load-saved, under-top}
 use Rattle.sizing.proofs.StartLaws.{branch-room}
-use Rattle.sizing.proofs.SplitLaws.{numbered-le}
+use Rattle.sizing.proofs.SplitLaws.{numbered-le, split-at}
 
 right-refused : {why : Reason} → _≡_ {A = Checked} (checked.Refused why) checked.Right → ⊥
 right-refused e = let z : _≡_ {A = ℕ} 0 1 = cc in omega arith
@@ -177,11 +177,6 @@ module _ {file heads : List ℕ} {g : ℕ} {r : Routine} {i : ℕ} {st : Saved} 
 
 ---- A branch
 
-split-at : (s : Program) (ps : List Split) (j : ℕ) → j < length ps → SplitsRight s ps → SplitRight s (getD ps j noSplit)
-split-at s [] j h r = absurd (omega arith)
-split-at s (p ∷ ps) zero h r = r .0
-split-at s (p ∷ ps) (suc j) h r = split-at s ps j (omega arith) (r .1)
-
 numbered-fits : (ps : List Split) (n count j : ℕ) → j < length ps → Numbered n ps count
     → getD ps j noSplit .first + getD ps j noSplit .parts ≤ count
 numbered-fits [] n count j h r = absurd (omega arith)
@@ -201,27 +196,22 @@ module _ {file heads : List ℕ} {g i : ℕ} {st : Saved} {c b : ℕ} (a : MoveA
   reached : Branches (programIn file) g (functionIn file g) i (st .height) c b
   reached = at-branch (a .function .walking) (a .function .there) (a .fit .at) c b (a .is) .1
 
-  pub move-constructor : constructorOffset c + 8 ≤ length (payload file)
+  pub move-constructor : constructorOffset c + 6 ≤ length (payload file)
   move-constructor =
       let w = a .function .walking in
-      w .records .there .constructor c (constructor-named w c (reached .kind) (reached .known) .0) .0
+      omega (arith, w .records .there .constructor c (constructor-named w c (reached .kind) (reached .known) .0) .0)
 
   pub move-short : i + 1 ≤ 256
   move-short = omega (arith, at-place (a .function .walking) (a .function .there) (reached .next) _ refl .2)
 
-  -- k: what is read of the constructor
-  module _ {k : ConstructorRecord} (is : k ≡ constructorAt (payload file) (constructorOffset c)) where
-    parts-is : k .declaration .arity ≡ length (reached .kind .arguments)
+  -- d: what is read of the constructor
+  module _ {d : Declaration} (is : d ≡ declarationAt (payload file) (constructorOffset c)) where
+    parts-is : d .arity ≡ length (reached .kind .arguments)
     parts-is =
-        ap (λ (y : ConstructorRecord). y .declaration .arity) is
+        ap (λ (y : Declaration). y .arity) is
         ∙ sym (constructor-read (a .function .walking) c (reached .kind) (reached .known) .0)
 
-    weight-is : k .weight ≡ reached .kind .weight
-    weight-is =
-        ap (λ (y : ConstructorRecord). y .weight) is
-        ∙ sym (constructor-read (a .function .walking) c (reached .kind) (reached .known) .2)
-
-    pub move-branch-asks : BranchAsks st c (k .declaration .arity)
+    pub move-branch-asks : BranchAsks st c (d .arity)
     move-branch-asks =
         let r = a .fit .right in let y = reached in let p = parts-is in
         let z = at-low (a .function .walking) (a .function .there) (y .next) in
@@ -242,17 +232,17 @@ module _ {file heads : List ℕ} {g i : ℕ} {st : Saved} {c b : ℕ} (a : MoveA
               let l = rw (getD-take (st .taken) (st .list) j noSplit h)
               at (numbered-fits (splitsIn st) (arity (functionIn file g)) (st .count) j (omega arith) (r .path .numbered)) in
               let same : s .declared-as ≡ y .kind = some-inj (sym (s .known) ∙ ap (constructor (programIn file)) e ∙ y .known) in
-              let q : getD (st .list) j noSplit .parts ≡ k .declaration .arity = sym (s .arity)
+              let q : getD (st .list) j noSplit .parts ≡ d .arity = sym (s .arity)
               ∙ ap (λ (x : Constructor). length (x .arguments)) same ∙ sym p in
               let m = r .path .few in
               (q, omega arith);
         }
 
     -- r: what leaves it
-    module _ {r : Branched} (says : Branching st c (k .declaration .arity) (k .weight) r) where
-      said : BranchSays (programIn file) g (functionIn file g) i b c (k .declaration .arity) st r
+    module _ {r : Branched} (says : Branching st c (d .arity) r) where
+      said : BranchSays (programIn file) g (functionIn file g) i b c (d .arity) st r
       said =
-          says (programIn file) g (functionIn file g) i b (reached .kind) (a .fit .right) (a .visited) (reached .known) parts-is weight-is
+          says (programIn file) g (functionIn file g) i b (reached .kind) (a .fit .right) (a .visited) (reached .known) parts-is
 
       pub said-branch-large : {m : Moved} → r .large ≡ true
           → m .checked ≡ checked.Refused (TooManyForms (record { function = g; instruction = i })) → StepSays file g i st m

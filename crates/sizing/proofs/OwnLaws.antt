@@ -26,17 +26,17 @@ use Rattle.rules.proofs.FormLaws.{all-flatMap}
 use Rattle.rules.proofs.Measures.{substituted-wide, form-wide}
 use Rattle.sizing.proofs.ListLaws.{and-both}
 use Rattle.sizing.proofs.FormLaws.{put-bound}
-use Rattle.sizing.proofs.SplitLaws.{spanned-wide, form-through}
+use Rattle.sizing.proofs.SplitLaws.{split-wide, form-through}
 use Rattle.sizing.specs.Right.{Path, ownAt, AllUnder}
 
 each-wide-put : (k : ℕ) (m : Alternative) → Wide m → {forms : List Form} → All AllWide forms → All AllWide (map (map (put k m)) forms)
 each-wide-put k m q w = all-mapped (map (put k m)) (λ form h. all-mapped (put k m) (λ a. put-wide k m a q) h) w
 
 -- carrying goes through a bound
-carried-bound : (ps : List Split) (b : List Alternative) (forms : List Form) → All AllWide forms
-    → map (carried ps) (intoBound b forms) ≡ intoBound b (map (map (carried ps)) forms)
+carried-bound : (s : Program) (ps : List Split) (b : List Alternative) (forms : List Form) → All AllWide forms
+    → map (carried s ps) (intoBound b forms) ≡ intoBound b (map (map (carried s ps)) forms)
 unfolding carried
-carried-bound [] b forms w = map-same (intoBound b forms) ∙ ap (intoBound b) (sym (maps-same forms))
+carried-bound s [] b forms w = map-same (intoBound b forms) ∙ ap (intoBound b) (sym (maps-same forms))
   where
     map-same : (xs : Form) → map (λ a. a) xs ≡ xs
     map-same [] = refl
@@ -45,24 +45,24 @@ carried-bound [] b forms w = map-same (intoBound b forms) ∙ ap (intoBound b) (
     maps-same : (xs : List Form) → map (map (λ a. a)) xs ≡ xs
     maps-same [] = refl
     maps-same (x ∷ xs) = let a = map-same x in let b = maps-same xs in cc
-carried-bound (p ∷ ps) b forms w =
-    sym (map-map (carried ps) (put (p .variable) (splitA p)) (intoBound b forms))
-    ∙ ap (map (carried ps)) (put-bound (p .variable) (splitA p) (spanned-wide (p .first) (p .parts) (p .weight)) b forms w)
-    ∙ carried-bound ps b (map (map (put (p .variable) (splitA p))) forms)
-    (each-wide-put (p .variable) (splitA p) (spanned-wide (p .first) (p .parts) (p .weight)) w)
+carried-bound s (p ∷ ps) b forms w =
+    sym (map-map (carried s ps) (put (p .variable) (splitA s p)) (intoBound b forms))
+    ∙ ap (map (carried s ps)) (put-bound (p .variable) (splitA s p) (split-wide s p) b forms w)
+    ∙ carried-bound s ps b (map (map (put (p .variable) (splitA s p))) forms)
+    (each-wide-put (p .variable) (splitA s p) (split-wide s p) w)
     ∙ ap (intoBound b) (maps forms)
   where
-    maps : (xs : List Form) → map (map (carried ps)) (map (map (put (p .variable) (splitA p))) xs)
-        ≡ map (map (λ a. carried ps (put (p .variable) (splitA p) a))) xs
+    maps : (xs : List Form) → map (map (carried s ps)) (map (map (put (p .variable) (splitA s p))) xs)
+        ≡ map (map (λ a. carried s ps (put (p .variable) (splitA s p) a))) xs
     maps [] = refl
-    maps (x ∷ xs) = let a = map-map (carried ps) (put (p .variable) (splitA p)) x in let b = maps xs in cc
+    maps (x ∷ xs) = let a = map-map (carried s ps) (put (p .variable) (splitA s p)) x in let b = maps xs in cc
 
 module _ (s : Program) where
   each-wide : (es : List Expression) → All AllWide (map (formOf s) es)
   each-wide es = all-mapped (formOf s) (λ e (u : Unit {0}). form-wide s e) (all-any es)
 
   forms-through : (ps : List Split) → SplitsRight s ps → (es : List Expression)
-      → map (formOf s) (map (through ps) es) ≡ map (map (carried ps)) (map (formOf s) es)
+      → map (formOf s) (map (through ps) es) ≡ map (map (carried s ps)) (map (formOf s) es)
   forms-through ps r [] = refl
   forms-through ps r (e ∷ es) = let a = form-through s ps r e in let b = forms-through ps r es in cc
 
@@ -73,10 +73,10 @@ module _ (s : Program) where
       (λ a (u : Unit {0}). substituted-wide (a .coefficients) (a .constant) (each-wide (variables 0 (arity f)))) (all-any (f .bound))
 
   pub own-through : (f : Function) (ps : List Split) → SplitsRight s ps
-      → intoBound (f .bound) (map (formOf s) (map (through ps) (variables 0 (arity f)))) ≡ map (carried ps) (ownAt s f)
+      → intoBound (f .bound) (map (formOf s) (map (through ps) (variables 0 (arity f)))) ≡ map (carried s ps) (ownAt s f)
   own-through f ps r =
       ap (intoBound (f .bound)) (forms-through ps r (variables 0 (arity f)))
-      ∙ sym (carried-bound ps (f .bound) (map (formOf s) (variables 0 (arity f))) (each-wide (variables 0 (arity f))))
+      ∙ sym (carried-bound s ps (f .bound) (map (formOf s) (variables 0 (arity f))) (each-wide (variables 0 (arity f))))
 
   pub variable-form : (v : ℕ) → formOf s (variableE v) ≡ variableOnly v ∷ []
   unfolding formOf formsOf
@@ -89,11 +89,11 @@ module _ (s : Program) where
   variables-covered n f ps count stack p u = rw (own-through f ps (p .right)) (go stack u)
     where
       go : (vs : List ℕ) → AllUnder count vs
-          → all (λ e. covers (map (carried ps) (ownAt s f)) (formOf s e)) (map (λ v. through ps (variableE v)) vs) ≡ true
+          → all (λ e. covers (map (carried s ps) (ownAt s f)) (formOf s e)) (map (λ v. through ps (variableE v)) vs) ≡ true
       go [] u = refl
       go (v ∷ vs) u =
-          and-both (covers (map (carried ps) (ownAt s f)) (formOf s (through ps (variableE v))))
-          (all (λ e. covers (map (carried ps) (ownAt s f)) (formOf s e)) (map (λ v. through ps (variableE v)) vs))
+          and-both (covers (map (carried s ps) (ownAt s f)) (formOf s (through ps (variableE v))))
+          (all (λ e. covers (map (carried s ps) (ownAt s f)) (formOf s e)) (map (λ v. through ps (variableE v)) vs))
           (rw (form-through s ps (p .right) (variableE v), variable-form v) (p .covered v (u .0)))
           (go vs (u .1))
 

@@ -4,7 +4,7 @@ use mathlib.Core.List.{List, [], _∷_, _++_, map, map-map, map-id}
 use mathlib.Core.Bool.{Bool, true, false}
 use Prim.Native.Nat.{ℕ, zero, suc, _+_, _*_, _≤_, _<_}
 use native.Mathlib.Omega.{arith}
-use lib.ListN.{replicate}
+use lib.ListN.{length, getD, replicate}
 use lib.Dec.{eqb, ltb}
 use borrow.Author.Tests.{eqb-true, eqb-false, ne-eqb, ltb-true, ltb-false}
 use Rattle.rules.specs.declared.records.Alternative.{Alternative}
@@ -14,7 +14,8 @@ use Rattle.rules.specs.Expressions.{variable, Expression, variables, replace}
 use Rattle.rules.specs.Forms.{Form, added, variableOnly, flatMap, substituted, builtForm, formOf, formsOf, covers}
 use Rattle.sizing.specs.declared.splits.Split.{Split}
 use Rattle.sizing.specs.Put.{coefficient, put, Wide, AllWide}
-use Rattle.sizing.specs.Splits.{variableE, splitE, through, spanned, splitA, carried, SplitRight, SplitsRight, Numbered, Whole}
+use Rattle.sizing.specs.Splits.{variableE, splitE, through, spanned, weightIn, splitA, carried, SplitRight, SplitsRight, Numbered}
+use Rattle.sizing.specs.Splits.{Whole, noSplit}
 use Rattle.sizing.specs.Right.{Path}
 use Rattle.sizing.proofs.PutLaws.{added-wide, added-at, put-wide, constant-wide, constant-at, variable-wide, variable-same}
 use Rattle.sizing.proofs.PutLaws.{variable-other, put-other-variable}
@@ -30,6 +31,9 @@ pub spanned-wide : (k n w : ℕ) → Wide (spanned k n w)
 unfolding spanned
 spanned-wide k zero w = constant-wide w
 spanned-wide k (suc n) w = added-wide 1 (variableOnly k) (spanned (suc k) n w) (variable-wide k) (spanned-wide (suc k) n w)
+
+pub split-wide : (s : Program) (p : Split) → Wide (splitA s p)
+split-wide s p = spanned-wide (p .first) (p .parts) (weightIn s p)
 
 pub spanned-low : (k n w i : ℕ) → i < k → coefficient (spanned k n w) i ≡ 0
 unfolding spanned
@@ -64,19 +68,19 @@ module _ (s : Program) where
   substituted-variables k (suc n) w =
       ap (λ (rest : Form). map (added 1 (variableOnly k)) rest ++ []) (substituted-variables (suc k) n w)
 
-  split-form : (p : Split) → SplitRight s p → formOf s (splitE p) ≡ splitA p ∷ []
+  split-form : (p : Split) → SplitRight s p → formOf s (splitE p) ≡ splitA s p ∷ []
   unfolding formOf formsOf builtForm
-  split-form p r = rw (r .known, r .arity, r .weight) (substituted-variables (p .first) (p .parts) (p .weight))
+  split-form p r = rw (r .known, r .arity) (substituted-variables (p .first) (p .parts) (r .declared-as .weight))
 
   -- the form of an expression after the splits
-  pub form-through : (ps : List Split) → SplitsRight s ps → (e : Expression) → formOf s (through ps e) ≡ map (carried ps) (formOf s e)
+  pub form-through : (ps : List Split) → SplitsRight s ps → (e : Expression) → formOf s (through ps e) ≡ map (carried s ps) (formOf s e)
   unfolding through carried
   form-through [] r e = sym (map-id (formOf s e))
   form-through (p ∷ ps) r e =
       form-through ps (r .1) (replace (p .variable) (splitE p) e)
-      ∙ ap (map (carried ps)) (form-replaced (p .variable) (splitA p) (spanned-wide (p .first) (p .parts) (p .weight)) s (r .0 .small)
+      ∙ ap (map (carried s ps)) (form-replaced (p .variable) (splitA s p) (split-wide s p) s (r .0 .small)
       (splitE p) (split-form p (r .0)) e)
-      ∙ map-map (carried ps) (put (p .variable) (splitA p)) (formOf s e)
+      ∙ map-map (carried s ps) (put (p .variable) (splitA s p)) (formOf s e)
 
 ---- One split more
 
@@ -86,17 +90,18 @@ unfolding through
 through-more [] p e = refl
 through-more (q ∷ ps) p e = through-more ps p (replace (q .variable) (splitE q) e)
 
-carried-more : (ps : List Split) (p : Split) (a : Alternative) → carried (ps ++ (p ∷ [])) a ≡ put (p .variable) (splitA p) (carried ps a)
+carried-more : (s : Program) (ps : List Split) (p : Split) (a : Alternative)
+    → carried s (ps ++ (p ∷ [])) a ≡ put (p .variable) (splitA s p) (carried s ps a)
 unfolding carried
-carried-more [] p a = refl
-carried-more (q ∷ ps) p a = carried-more ps p (put (q .variable) (splitA q) a)
+carried-more s [] p a = refl
+carried-more s (q ∷ ps) p a = carried-more s ps p (put (q .variable) (splitA s q) a)
 
-pub carried-wide : (ps : List Split) (a : Alternative) → Wide a → Wide (carried ps a)
+pub carried-wide : (s : Program) (ps : List Split) (a : Alternative) → Wide a → Wide (carried s ps a)
 unfolding carried
-carried-wide [] a w = w
-carried-wide (p ∷ ps) a w =
-    carried-wide ps (put (p .variable) (splitA p) a)
-    (put-wide (p .variable) (splitA p) a (spanned-wide (p .first) (p .parts) (p .weight)) w)
+carried-wide s [] a w = w
+carried-wide s (p ∷ ps) a w =
+    carried-wide s ps (put (p .variable) (splitA s p) a)
+    (put-wide (p .variable) (splitA s p) a (split-wide s p) w)
 
 ---- A variable that is whole stays
 
@@ -105,12 +110,12 @@ unfolding through replace
 through-whole [] v w = refl
 through-whole (p ∷ ps) v w = rw (ne-eqb v (p .variable) (w .0)) (through-whole ps v (w .1))
 
-carried-whole : (ps : List Split) (v : ℕ) → Whole v ps → carried ps (variableOnly v) ≡ variableOnly v
+carried-whole : (s : Program) (ps : List Split) (v : ℕ) → Whole v ps → carried s ps (variableOnly v) ≡ variableOnly v
 unfolding carried
-carried-whole [] v w = refl
-carried-whole (p ∷ ps) v w =
-    ap (carried ps) (put-other-variable (p .variable) (splitA p) v (spanned-wide (p .first) (p .parts) (p .weight)) (w .0))
-    ∙ carried-whole ps v (w .1)
+carried-whole s [] v w = refl
+carried-whole s (p ∷ ps) v w =
+    ap (carried s ps) (put-other-variable (p .variable) (splitA s p) v (split-wide s p) (w .0))
+    ∙ carried-whole s ps v (w .1)
 
 pub numbered-le : (ps : List Split) (n count : ℕ) → Numbered n ps count → n ≤ count
 numbered-le [] n count h = omega arith
@@ -129,17 +134,22 @@ numbered-more (q ∷ ps) n count p h v f = (h .0, h .1, numbered-more ps (n + q 
 
 ---- What a variable stands for, and every variable covered
 
-map-more : (ps : List Split) (p : Split) (xs : Form)
-    → map (carried (ps ++ (p ∷ []))) xs ≡ map (put (p .variable) (splitA p)) (map (carried ps) xs)
-map-more ps p [] = refl
-map-more ps p (x ∷ xs) = let e = carried-more ps p x in let ih = map-more ps p xs in cc
+map-more : (s : Program) (ps : List Split) (p : Split) (xs : Form)
+    → map (carried s (ps ++ (p ∷ []))) xs ≡ map (put (p .variable) (splitA s p)) (map (carried s ps) xs)
+map-more s ps p [] = refl
+map-more s ps p (x ∷ xs) = let e = carried-more s ps p x in let ih = map-more s ps p xs in cc
 
-carried-all-wide : (ps : List Split) (xs : Form) → AllWide xs → AllWide (map (carried ps) xs)
-carried-all-wide ps xs w = all-mapped (carried ps) (carried-wide ps) w
+carried-all-wide : (s : Program) (ps : List Split) (xs : Form) → AllWide xs → AllWide (map (carried s ps) xs)
+carried-all-wide s ps xs w = all-mapped (carried s ps) (carried-wide s ps) w
 
 right-more : (s : Program) (ps : List Split) (p : Split) → SplitsRight s ps → SplitRight s p → SplitsRight s (ps ++ (p ∷ []))
 right-more s [] p r q = (q, tt)
 right-more s (x ∷ ps) p r q = (r .0, right-more s ps p (r .1) q)
+
+pub split-at : (s : Program) (ps : List Split) (j : ℕ) → j < length ps → SplitsRight s ps → SplitRight s (getD ps j noSplit)
+split-at s [] j h r = absurd (omega arith)
+split-at s (p ∷ ps) zero h r = r .0
+split-at s (p ∷ ps) (suc j) h r = split-at s ps j (omega arith) (r .1)
 
 whole-append : (qs : List Split) (p : Split) (x : ℕ) → Whole x qs → (x ≡ p .variable → ⊥) → Whole x (qs ++ (p ∷ []))
 whole-append [] p x w d = (d, tt)
@@ -156,25 +166,25 @@ path-split s own n ps count p w h r v u f l =
       few = l;
       spare =
           spare-split ps count p (h .spare) v u (λ x g. whole-append ps p x (whole-new ps n count x (h .numbered) g) (λ e. omega arith));
-      covered = λ x xl. rw (map-more ps p own, carried-more ps p (variableOnly x)) (go x xl (ltb x count) refl);
+      covered = λ x xl. rw (map-more s ps p own, carried-more s ps p (variableOnly x)) (go x xl (ltb x count) refl);
     }
   where
-    sw : Wide (splitA p)
-    sw = spanned-wide (p .first) (p .parts) (p .weight)
+    sw : Wide (splitA s p)
+    sw = split-wide s p
 
     go : (x : ℕ) → x < count + p .parts → (t : Bool) → ltb x count ≡ t
-        → covers (map (put (p .variable) (splitA p)) (map (carried ps) own))
-        (put (p .variable) (splitA p) (carried ps (variableOnly x)) ∷ []) ≡ true
+        → covers (map (put (p .variable) (splitA s p)) (map (carried s ps) own))
+        (put (p .variable) (splitA s p) (carried s ps (variableOnly x)) ∷ []) ≡ true
     go x xl true e =
-        covers-put (p .variable) (splitA p) sw (map (carried ps) own) (carried ps (variableOnly x) ∷ []) (carried-all-wide ps own w)
-        (carried-wide ps (variableOnly x) (variable-wide x) l∷ l[]) (h .covered x (ltb-true x count e))
+        covers-put (p .variable) (splitA s p) sw (map (carried s ps) own) (carried s ps (variableOnly x) ∷ []) (carried-all-wide s ps own w)
+        (carried-wide s ps (variableOnly x) (variable-wide x) l∷ l[]) (h .covered x (ltb-true x count e))
     go x xl false e =
         let ge : count ≤ x = ltb-false x count e in
         rw (
-          carried-whole ps x (whole-new ps n count x (h .numbered) ge),
-          put-other-variable (p .variable) (splitA p) x sw (λ e. omega
+          carried-whole s ps x (whole-new ps n count x (h .numbered) ge),
+          put-other-variable (p .variable) (splitA s p) x sw (λ e. omega
               arith),
         )
-        (covers-part (p .variable) (splitA p) sw x (map (carried ps) own) (omega arith) (r .small) (carried-all-wide ps own w)
-        (rw (spanned-in (p .first) (p .parts) (p .weight) x (omega arith) (omega arith) (omega arith)) (omega arith))
-        (rw (carried-whole ps (p .variable) u) at (h .covered (p .variable) v)))
+        (covers-part (p .variable) (splitA s p) sw x (map (carried s ps) own) (omega arith) (r .small) (carried-all-wide s ps own w)
+        (rw (spanned-in (p .first) (p .parts) (weightIn s p) x (omega arith) (omega arith) (omega arith)) (omega arith))
+        (rw (carried-whole s ps (p .variable) u) at (h .covered (p .variable) v)))

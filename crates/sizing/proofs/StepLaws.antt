@@ -155,12 +155,12 @@ module _ (s : Program) (n : ℕ) (f : Function) (st : Saved) (r : SavedRight s f
           (getD (st .stack) (st .height - 1) 0) stack-top (whole e) c k known o
 
       pub branch-split : (p : Split) (m x : Saved) → at ≡ st .taken → p .variable ≡ getD (st .stack) (st .height - 1) 0 → p .constructor ≡ c
-          → p .first ≡ st .count → p .parts ≡ length (k .arguments) → p .weight ≡ k .weight
+          → p .first ≡ st .count → p .parts ≡ length (k .arguments)
           → st .count + p .parts ≤ 16 → st .taken < 16 → SplitMore st p m → SameSplits m x → x .height ≤ 16
           → stackIn x ≡ take (st .height - 1) (st .stack) ++ upFrom (st .count) (p .parts)
           → (shapeFrom s n f i (Branch c b) (shapeIn f st) ≡ found ((suc i, shapeIn f x) ∷ (b, shapeIn f st) ∷ []))
           × SavedRight s f x
-      branch-split p m x e pv pc pf pn pw o room sm q g t = (
+      branch-split p m x e pv pc pf pn o room sm q g t = (
         branch-whole s n f (splitsIn st) (st .count) (stackIn st) (r .path) (r .under) i b (take (st .height - 1) (st .stack))
             (getD (st .stack) (st .height - 1) 0) stack-top (whole e) c k known p pv pc pf pn under-top (let z = pn in omega arith)
             ∙ ap (λ (sh : Shape). found ((suc i, sh) ∷ (b, shapeIn f st) ∷ [])) same,
@@ -172,7 +172,6 @@ module _ (s : Program) (n : ℕ) (f : Function) (st : Saved) (r : SavedRight s f
                 declared-as = k;
                 known = ap (constructor s) pc ∙ known;
                 arity = sym pn;
-                weight = sym pw;
               })
               (let z = under-top in omega arith) (rw pv (whole e)) pf o);
           under = rw (q .count, sm .count, t)

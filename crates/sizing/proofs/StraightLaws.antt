@@ -40,7 +40,7 @@ use Rattle.sizing.specs.Routines.{MakerIs}
 use Rattle.sizing.specs.Walking.{Makes, LineAsks}
 use Rattle.sizing.proofs.WalkLaws.{alike-past, alike-here, alike-put, outcome-alike, outcome-refused, outcome-goes, first-put}
 use Rattle.sizing.proofs.ReachLaws.{at-low, at-load, at-build, at-call, at-branch, at-some}
-use Rattle.sizing.proofs.FileLaws.{constructor-read, light, function-named, arity-is, few-parameters, bound-right, bound-is}
+use Rattle.sizing.proofs.FileLaws.{constructor-read, light, weights, function-named, arity-is, few-parameters, bound-right, bound-is}
 use Rattle.sizing.proofs.FileLaws.{own-bound}
 use Rattle.sizing.proofs.ConvertLaws.{entry-asks, own-asks, converted}
 use Rattle.sizing.proofs.LineLaws.{line-rule, line-entry, load-line, entered, enteredShape, enter-large, enter-goes, enter-line}
@@ -124,22 +124,22 @@ Line file g start own stack₀ height₀ stack height j =
 module _ {file heads : List ℕ} {g : ℕ} {r : Routine} {start : ℕ} {st : Saved} (a : LineAsks file heads g r start st) where
   ---- The start
 
-  pub line-entry-asks : (i : ℕ) → i < st .height → EntryAsks st i
-  line-entry-asks = entry-asks (programIn file) (functionIn file g) st (a .right) (light (a .walking))
+  pub line-entry-asks : (i : ℕ) → i < st .height → EntryAsks file st i
+  line-entry-asks = entry-asks file (functionIn file g) st (a .right) (weights (a .walking))
 
-  pub line-own-asks : OwnAsks (payload file) (r .bound) (record { taken = st .taken; list = st .list })
-  line-own-asks = own-asks (programIn file) (functionIn file g) st (a .right) (light (a .walking))
-      (le-trans (few-parameters (a .walking) g (a .there)) (omega arith)) (payload file) (r .bound)
+  pub line-own-asks : OwnAsks file (r .bound) (record { taken = st .taken; list = st .list })
+  line-own-asks = own-asks file (functionIn file g) st (a .right) (weights (a .walking))
+      (le-trans (few-parameters (a .walking) g (a .there)) (omega arith)) (r .bound)
       (own-bound (a .walking) g (a .there) (r .bound) (a .routine .bound))
       (bound-is (a .walking) g (a .there) (r .bound) (a .routine .bound))
 
   -- where the code has the forms of all entries
   module _ {own : Form} {stack : List Form} {height : ℕ} (all : height ≡ st .height) where
-    pub line-right : OwnIs (payload file) (r .bound) (record { taken = st .taken; list = st .list }) own → FormsAre st height stack
+    pub line-right : OwnIs file (r .bound) (record { taken = st .taken; list = st .list }) own → FormsAre file st height stack
         → LineRight (programIn file) (functionIn file g) (shapeIn (functionIn file g) st) own stack height
     line-right o h =
-        rw all (converted (programIn file) (functionIn file g) st (a .right) (light (a .walking))
-        (le-trans (few-parameters (a .walking) g (a .there)) (omega arith)) (payload file) (r .bound)
+        rw all (converted file (functionIn file g) st (a .right) (weights (a .walking))
+        (le-trans (few-parameters (a .walking) g (a .there)) (omega arith)) (r .bound)
         (own-bound (a .walking) g (a .there) (r .bound) (a .routine .bound))
         (bound-is (a .walking) g (a .there) (r .bound) (a .routine .bound)) stack own (rw all at h) o)
 

@@ -28,7 +28,7 @@ pub record Path (s : Program) (own : forms.Form) (n : ℕ) (ps : List Split) (co
   pub numbered : Numbered n ps count
   pub few : count ≤ 16
   pub spare : Spare ps count
-  pub covered : (v : ℕ) → v < count → covers (map (carried ps) own) (carried ps (variableOnly v) ∷ []) ≡ true
+  pub covered : (v : ℕ) → v < count → covers (map (carried s ps) own) (carried s ps (variableOnly v) ∷ []) ≡ true
 
 abbrev pub AllUnder : ℕ → List ℕ → Type 0
 AllUnder count [] = Unit {0}

@@ -6,13 +6,16 @@ use mathlib.Core.Option.{none, some}
 use mathlib.Core.Logic.{_⊎_}
 use lib.ListN.{length, getD, take}
 use Rattle.rules.specs.declared.records.Alternative.{Alternative}
-use Rattle.rules.specs.Program.{constructor, Constructor, Function, Program, arity}
+use Rattle.rules.specs.Base.{byteAt}
+use Rattle.rules.specs.Container.{payload}
+use Rattle.rules.specs.Records.{constructorOffset, programIn}
+use Rattle.rules.specs.Program.{constructor, Constructor, Function, Program, arity, weightOf}
 use Rattle.rules.specs.Tree.{node, nil, made}
 use Rattle.rules.specs.Expressions.{Expression, variable, known, variables, replace}
 use Rattle.rules.specs.Forms.{added, constantOnly, variableOnly}
 use Rattle.rules.specs.Shapes.{Shape}
 use Rattle.sizing.specs.declared.splits.Split.{Split}
-use Rattle.sizing.specs.Put.{put, Wide, coefficient}
+use Rattle.sizing.specs.Put.{put, Wide, Bounded, coefficient}
 
 abbrev pub variableE : ℕ → Expression
 variableE v = node (variable v) nil
@@ -31,13 +34,17 @@ unfoldable pub spanned : ℕ → ℕ → ℕ → Alternative
 spanned k zero w = constantOnly w
 spanned k (suc n) w = added 1 (variableOnly k) (spanned (suc k) n w)
 
-abbrev pub splitA : Split → Alternative
-splitA p = spanned (p .first) (p .parts) (p .weight)
+-- the weight of a split's constructor
+abbrev pub weightIn : Program → Split → ℕ
+weightIn s p = weightOf (constructor s (p .constructor))
+
+abbrev pub splitA : Program → Split → Alternative
+splitA s p = spanned (p .first) (p .parts) (weightIn s p)
 
 -- an alternative after the splits
-unfoldable pub carried : List Split → Alternative → Alternative
-carried [] a = a
-carried (p ∷ ps) a = carried ps (put (p .variable) (splitA p) a)
+unfoldable pub carried : Program → List Split → Alternative → Alternative
+carried s [] a = a
+carried s (p ∷ ps) a = carried s ps (put (p .variable) (splitA s p) a)
 
 -- what a split says of its constructor is right
 pub record SplitRight (s : Program) (p : Split) : Type 0 where
@@ -45,7 +52,6 @@ pub record SplitRight (s : Program) (p : Split) : Type 0 where
   pub declared-as : Constructor
   pub known : constructor s (p .constructor) ≡ some declared-as
   pub arity : length (declared-as .arguments) ≡ p .parts
-  pub weight : declared-as .weight ≡ p .weight
 
 abbrev pub SplitsRight : Program → List Split → Type 0
 SplitsRight s [] = Unit {0}
@@ -82,10 +88,23 @@ abbrev pub Loose : ℕ → ℕ → Alternative → Type 0
 Loose n k a = Tidy n k a ⊎ ((v : ℕ) × (a ≡ variableOnly v) × (n ≤ v) × (v < 16))
 
 abbrev pub noSplit : Split
-noSplit = record { variable = 0; constructor = 0; first = 0; parts = 0; weight = 0 }
+noSplit = record { variable = 0; constructor = 0; first = 0; parts = 0 }
+
+-- the weight of a split's constructor stands in its record
+pub record WeightThere (file : List ℕ) (p : Split) : Type 0 where
+  pub there : constructorOffset (p .constructor) + 8 ≤ length (payload file)
+  pub weight : byteAt (payload file) (constructorOffset (p .constructor) + 6) ≡ weightIn (programIn file) p
+  pub light : weightIn (programIn file) p ≤ 255
+
+-- a split can be carried
+pub record SplitAsks (file : List ℕ) (a : Alternative) (p : Split) : Type 0 where
+  pub variable : p .variable < 16
+  pub parts : p .first + p .parts ≤ 16
+  pub bounded : Bounded 15 1048576 a
+  pub weight : WeightThere file p
 
 -- the first t of these splits can be carried
-pub record Carrying (a : Alternative) (t : ℕ) (ps : List Split) : Type 0 where
+pub record Carrying (file : List ℕ) (a : Alternative) (t : ℕ) (ps : List Split) : Type 0 where
   pub start : ℕ
   pub count : ℕ
   pub few : t ≤ 16
@@ -93,4 +112,4 @@ pub record Carrying (a : Alternative) (t : ℕ) (ps : List Split) : Type 0 where
   pub loose : Loose start 65535 a
   pub numbered : Numbered start (take t ps) count
   pub long : length ps ≡ 16
-  pub light : (i : ℕ) → i < t → getD ps i noSplit .weight ≤ 255
+  pub weights : (i : ℕ) → i < t → WeightThere file (getD ps i noSplit)

@@ -7,6 +7,8 @@ use Prim.Native.Nat.{ℕ, suc, _+_, _-_, _≤_, _<_}
 use lib.ListN.{length, take, getD}
 use Rattle.rules.specs.declared.records.Instruction.the-variants.{Branch}
 use Rattle.rules.specs.Base.{found, refused, refusal, numbered}
+use Rattle.rules.specs.Container.{payload}
+use Rattle.rules.specs.Records.{programIn}
 use Rattle.rules.specs.Program.{constructor, Constructor, Function, Program}
 use Rattle.rules.specs.Walk.{Arrow}
 use Rattle.rules.specs.Forms.{variableOnly}
@@ -55,26 +57,25 @@ pub record BranchSays (s : Program) (n : ℕ) (f : Function) (i b c parts : ℕ)
   pub other : r .other .visited ≡ true → SavedRight s f (r .other) × (r .other .height ≡ st .height)
 
 -- for every program that the state stands for
-abbrev pub Branching : Saved → ℕ → ℕ → ℕ → Branched → Type 0
-Branching st c parts weight r =
+abbrev pub Branching : Saved → ℕ → ℕ → Branched → Type 0
+Branching st c parts r =
     (s : Program) (n : ℕ) (f : Function) (i b : ℕ) (k : Constructor) → SavedRight s f st → st .visited ≡ true → constructor s c ≡ some k
-    → parts ≡ length (k .arguments) → weight ≡ k .weight
-    → BranchSays s n f i b c parts st r
+    → parts ≡ length (k .arguments) → BranchSays s n f i b c parts st r
 
 -- the variable at place i of the stack can be taken through the splits
-pub record EntryAsks (st : Saved) (i : ℕ) : Type 0 where
+pub record EntryAsks (file : List ℕ) (st : Saved) (i : ℕ) : Type 0 where
   pub place : i < 16
   pub small : getD (st .stack) i 0 < 16
-  pub carrying : Carrying (variableOnly (getD (st .stack) i 0)) (st .taken) (st .list)
+  pub carrying : Carrying file (variableOnly (getD (st .stack) i 0)) (st .taken) (st .list)
 
 -- its form after the splits
-abbrev pub EntryIs : Saved → ℕ → Form → Type 0
-EntryIs st i x = Single x (carried (splitsIn st) (variableOnly (getD (st .stack) i 0)))
+abbrev pub EntryIs : List ℕ → Saved → ℕ → Form → Type 0
+EntryIs file st i x = Single x (carried (programIn file) (splitsIn st) (variableOnly (getD (st .stack) i 0)))
 
 -- the forms of the lowest n variables
-pub record FormsAre (st : Saved) (n : ℕ) (r : List Form) : Type 0 where
+pub record FormsAre (file : List ℕ) (st : Saved) (n : ℕ) (r : List Form) : Type 0 where
   pub long : length r ≡ 20
-  pub each : (i : ℕ) → i < n → EntryIs st i (getD r i noForm)
+  pub each : (i : ℕ) → i < n → EntryIs file st i (getD r i noForm)
 
 -- a row of a bound at the parameters, before the splits
 abbrev pub ownRow : AlternativeRecord → Alternative
@@ -82,13 +83,13 @@ ownRow row = widened 0 (row .coefficients) (row .constant)
 
 -- and row k after them
 abbrev pub ownAfter : List ℕ → Bound → Splits → ℕ → Alternative
-ownAfter bytes b s k = carried (take (s .taken) (s .list)) (ownRow (rowIn bytes b k))
+ownAfter file b s k = carried (programIn file) (take (s .taken) (s .list)) (ownRow (rowIn (payload file) b k))
 
-pub record OwnAsks (bytes : List ℕ) (b : Bound) (s : Splits) : Type 0 where
-  pub bound : BoundRight bytes b
-  pub carrying : (k : ℕ) → k < b .count → Carrying (ownRow (rowIn bytes b k)) (s .taken) (s .list)
+pub record OwnAsks (file : List ℕ) (b : Bound) (s : Splits) : Type 0 where
+  pub bound : BoundRight (payload file) b
+  pub carrying : (k : ℕ) → k < b .count → Carrying file (ownRow (rowIn (payload file) b k)) (s .taken) (s .list)
 
-pub record OwnIs (bytes : List ℕ) (b : Bound) (s : Splits) (x : Form) : Type 0 where
+pub record OwnIs (file : List ℕ) (b : Bound) (s : Splits) (x : Form) : Type 0 where
   pub right : FormRight x
   pub count : x .count ≡ b .count
-  pub same : formIn x ≡ numbered (ownAfter bytes b s) 0 (b .count)
+  pub same : formIn x ≡ numbered (ownAfter file b s) 0 (b .count)

@@ -1,6 +1,5 @@
 // A path from its first build or call on: variables become size forms, and the path is a straight line to its end.
 ghost use mathlib.Core.Path.{_≡_};
-ghost use Rattle.rules.specs.Container.{payload};
 ghost use Rattle.rules.specs.Established.{Verified};
 ghost use Rattle.sizing.specs.Put.{widened};
 ghost use Rattle.sizing.specs.Forms.{RowRight};
@@ -47,15 +46,15 @@ pub fn widen(row: AlternativeRecord) -> Alternative
 
 // The function's own bound at its parameters' shapes.
 pub fn own_form(file: &[u8], bound: Bound, s: Splits) -> Form
-    requires { ⌜ Verified (now file) × OwnAsks (payload (now file)) bound s ⌝ }
-    ensures { λ x. ⌜ OwnIs (payload (now (file .entry))) bound s x ⌝ }
+    requires { ⌜ Verified (now file) × OwnAsks (now file) bound s ⌝ }
+    ensures { λ x. ⌜ OwnIs (now (file .entry)) bound s x ⌝ }
 {
     let n = bound.count;
     let mut x = no_form();
     let mut i: usize = 0;
     while i < n {
         let row = row_of(file, bound, i);
-        x.alternatives[i] = carry(widen(row), s);
+        x.alternatives[i] = carry(file, widen(row), s);
         i += 1;
     }
     x.count = n;
@@ -63,9 +62,9 @@ pub fn own_form(file: &[u8], bound: Bound, s: Splits) -> Form
 }
 
 // The form of the variable at place i of the stack.
-pub fn entry_form(st: Saved, i: usize) -> Form
-    requires { ⌜ EntryAsks st i ⌝ }
-    ensures { λ x. ⌜ EntryIs st i x ⌝ }
+pub fn entry_form(file: &[u8], st: Saved, i: usize) -> Form
+    requires { ⌜ Verified (now file) × EntryAsks (now file) st i ⌝ }
+    ensures { λ x. ⌜ EntryIs (now (file .entry)) st i x ⌝ }
 {
     let l = st.list;
     let s = Splits {
@@ -73,7 +72,7 @@ pub fn entry_form(st: Saved, i: usize) -> Form
         list: l,
     };
     let v = st.stack[i] as usize;
-    single(carry(unit(v), s))
+    single(carry(file, unit(v), s))
 }
 
 // How the straight line ends: passed, with the number of the instruction behind it, or refused.
@@ -116,7 +115,7 @@ pub fn straight_line(
     let mut stack = [no_form(); 20];
     let mut height: usize = 0;
     while height < st.height {
-        stack[height] = entry_form(st, height);
+        stack[height] = entry_form(file, st, height);
         height += 1;
     }
     let mut j = start;

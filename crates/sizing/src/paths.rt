@@ -40,7 +40,6 @@ pub fn unvisited() -> Saved
             constructor: 0,
             first: 0,
             parts: 0,
-            weight: 0,
         }; 16],
     }
 }
@@ -120,9 +119,9 @@ fn sides(next: Saved, other: Saved) -> Branched
 }
 
 // A branch on constructor c: both sides where the top is whole, and where its constructor is known the side that can be taken.
-pub fn branch_variable(st: Saved, c: u8, parts: u8, weight: u8) -> Branched
+pub fn branch_variable(st: Saved, c: u8, parts: u8) -> Branched
     requires { ⌜ BranchAsks st c parts ⌝ }
-    ensures { λ r. ⌜ Branching st c parts weight r ⌝ }
+    ensures { λ r. ⌜ Branching st c parts r ⌝ }
 {
     let none = unvisited();
     let h = st.height;
@@ -149,7 +148,6 @@ pub fn branch_variable(st: Saved, c: u8, parts: u8, weight: u8) -> Branched
         constructor: c,
         first: first,
         parts: parts,
-        weight: weight,
     };
     let more = add_taken(st, p);
     sides(push_parts(more, first, parts), st)

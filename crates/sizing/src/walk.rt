@@ -18,8 +18,7 @@ use crate::paths::unvisited;
 use crate::routines::Routine;
 use crate::routines::routine_at;
 use crate::splits::Split;
-use readers::constructor;
-use readers::constructor_offset;
+use readers::constructor_declaration;
 use readers::instruction;
 use readers::instruction_offset;
 use readers::wide;
@@ -56,7 +55,6 @@ fn start_state(arity: usize) -> Saved
             constructor: 0,
             first: 0,
             parts: 0,
-            weight: 0,
         }; 16],
     }
 }
@@ -103,9 +101,8 @@ fn branch(file: &[u8], g: usize, i: usize, st: Saved, c: u8, b: u16) -> Moved
     requires { ⌜ ((heads : List ℕ) × MoveAsks (now file) heads g i st (ins.Branch c b)) ⌝ }
     ensures { λ r. ⌜ StepSays (now (file .entry)) g i st r ⌝ }
 {
-    let k = constructor(file, constructor_offset(wide(c)));
-    let d = k.declaration;
-    let r = branch_variable(st, c, d.arity, k.weight);
+    let d = constructor_declaration(file, wide(c));
+    let r = branch_variable(st, c, d.arity);
     if r.large {
         return refuse(Reason::TooManyForms(Place {
             function: g,

@@ -13,7 +13,9 @@ unit-requires : tie.Need-unit-requires
 unit-requires c κs = search needs
 
 carry-requires : tie.Need-carry-requires
-carry-requires c κs = rw (c .unit .ensures) (c .before .before .before .pre .carrying)
+carry-requires c κs =
+    let start = c .before .before .before .before in
+    (start .pre .0, rw (c .unit .ensures) (start .pre .1 .carrying))
 
 single-requires : tie.Need-single-requires
 single-requires c κs = search needs

@@ -8,6 +8,7 @@ use Rattle.rules.specs.declared.records.Alternative.{Alternative}
 use Rattle.rules.specs.declared.records.AlternativeRecord.{AlternativeRecord}
 use Rattle.rules.specs.Base.{numbered}
 use Rattle.rules.specs.Container.{payload}
+use Rattle.rules.specs.Records.{programIn}
 use Rattle.rules.proofs.NumberedLaws.{numbered-all}
 use Rattle.sizing.specs.declared.bounds.Bound.{Bound}
 use Rattle.sizing.specs.declared.splits.Splits.{Splits}
@@ -24,16 +25,16 @@ use Rattle.sizing.proofs.line.own_form.Tie as tie
 
 abbrev Inv-loop : tie.InvT-loop
 Inv-loop file bound s n x₀ i₀ x i =
-    (i ≤ n) × (length (x .alternatives) ≡ 16) × (take i (x .alternatives) ≡ numbered (ownAfter (payload file) bound s) 0 i)
+    (i ≤ n) × (length (x .alternatives) ≡ 16) × (take i (x .alternatives) ≡ numbered (ownAfter file bound s) 0 i)
 
 abbrev μ-loop : tie.MeasureT-loop
 μ-loop file bound s n x₀ i₀ x i = n - i
 
-own-wide : (bytes : List ℕ) (b : Bound) (s : Splits) (n : ℕ) → AllWide (numbered (ownAfter bytes b s) 0 n)
-own-wide bytes b s n = numbered-all (ownAfter bytes b s) n 0 (λ i l. wide (rowIn bytes b (0 + i)))
+own-wide : (file : List ℕ) (b : Bound) (s : Splits) (n : ℕ) → AllWide (numbered (ownAfter file b s) 0 n)
+own-wide file b s n = numbered-all (ownAfter file b s) n 0 (λ i l. wide (rowIn (payload file) b (0 + i)))
   where
-    wide : (row : AlternativeRecord) → Wide (carried (take (s .taken) (s .list)) (ownRow row))
-    wide row = carried-wide (take (s .taken) (s .list)) (ownRow row) (widened-wide 0 (row .coefficients) (row .constant))
+    wide : (row : AlternativeRecord) → Wide (carried (programIn file) (take (s .taken) (s .list)) (ownRow row))
+    wide row = carried-wide (programIn file) (take (s .taken) (s .list)) (ownRow row) (widened-wide 0 (row .coefficients) (row .constant))
 
 no-form-requires : tie.Need-no-form-requires Inv-loop μ-loop
 no-form-requires c κs = search needs
@@ -61,7 +62,8 @@ carry-requires c κs =
     let at-loop-test = at-row-of .before in
     let at-loop = at-loop-test .before in
     let start = at-loop .before .before .before in
-    rw (c .widen .ensures, at-row-of .row-of .ensures) (start .pre .1 .carrying (at-loop .loop .i) (at-loop-test .loop-test .taken))
+    let carrying = start .pre .1 .carrying (at-loop .loop .i) (at-loop-test .loop-test .taken) in
+    (start .pre .0, rw (c .widen .ensures, at-row-of .row-of .ensures) carrying)
 
 mul-t12 : tie.Need-mul-t12 Inv-loop μ-loop
 mul-t12 c = let f = c .before .before .before .before .before .before .before .pre .1 .bound .few in omega arith
@@ -85,7 +87,7 @@ loop-again c =
     let i = at-loop .loop .i in
     let f = start .pre .1 .bound .few in
     let long = at-loop .loop .inv .1 in
-    let after = ownAfter (payload (start .args .file .now)) (start .args .bound) (start .args .s) in
+    let after = ownAfter (start .args .file .now) (start .args .bound) (start .args .s) in
     let is : c .carry .result ≡ after i = rw (at-widen .widen .ensures, at-row-of .row-of .ensures) at (c .carry .ensures) in (
       omega arith,
       length-set (x .alternatives) i (c .carry .result) ∙ long,
@@ -104,7 +106,7 @@ returns c =
       right = record {
         few = omega arith;
         long = at-loop .loop .inv .1;
-        wide = rw same (own-wide (payload (start .args .file .now)) (start .args .bound) (start .args .s) (start .args .bound .count));
+        wide = rw same (own-wide (start .args .file .now) (start .args .bound) (start .args .s) (start .args .bound .count));
       };
       count = refl;
       same = same;

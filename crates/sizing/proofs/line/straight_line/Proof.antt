@@ -28,7 +28,7 @@ use Rattle.sizing.proofs.line.straight_line.Statement.{statement}
 use Rattle.sizing.proofs.line.straight_line.Tie as tie
 
 abbrev Inv-loop : tie.InvT-loop
-Inv-loop file heads g f start st own stack₀ height₀ stack height = (height ≤ st .height) × FormsAre st height stack
+Inv-loop file heads g f start st own stack₀ height₀ stack height = (height ≤ st .height) × FormsAre file st height stack
 
 abbrev μ-loop : tie.MeasureT-loop
 μ-loop file heads g f start st own stack₀ height₀ stack height = st .height - height
@@ -125,7 +125,7 @@ entry-form-requires : tie.Need-entry-form-requires Inv-loop μ-loop Inv-loop2 μ
 entry-form-requires c κs =
     let at-loop = c .before .before in
     let start = at-loop .before .before .before .before .before .before in
-    line-entry-asks (start .pre) (at-loop .loop .height) (c .if1 .taken)
+    (start .pre .walking .records .verified, line-entry-asks (start .pre) (at-loop .loop .height) (c .if1 .taken))
 
 mul-stack : tie.Need-mul-stack Inv-loop μ-loop Inv-loop2 μ-loop2
 mul-stack c =

@@ -55,7 +55,7 @@ returns c =
     let nv = at-unvisited .unvisited .ensures in
     let e = at-push-parts .push-parts .ensures in
     let q = pre .each at (at-if1 .if1 .taken) (at-if2 .if2 .taken) in
-    λ s n f i b k r v known pn pw.
+    λ s n f i b k r v known pn.
     let fits = pre .fits in
     let some = pre .some in
     let hi = e .1 in
@@ -85,7 +85,7 @@ returns-2 c =
     let at = at-find-split .find-split .result in
     let fd = at-find-split .find-split .ensures in
     let nv = at-unvisited .unvisited .ensures in
-    λ s n f i b k r v known pn pw.
+    λ s n f i b k r v known pn.
     record {
       large = λ z. absurd (false-true z);
       goes =
@@ -111,7 +111,7 @@ returns-3 c =
     let m = fd .most in
     let o = c .if3 .taken in
     let left = at-if1 .if1 .left in
-    λ s n f i b k r v known pn pw.
+    λ s n f i b k r v known pn.
     record {
       large = λ z. branch-over s n f st r (pre .some) i b (start .args .c) k known at fd (omega arith) (omega arith);
       goes = λ z. absurd (false-true (sym z));
@@ -164,7 +164,7 @@ returns-4 c =
     let hi = e .1 in
     let ah = a .height in
     let o = at-if3 .if3 .left in
-    λ s n f i b k r v known pn pw.
+    λ s n f i b k r v known pn.
     let fits = pre .fits in
     let some = pre .some in
     let same : at ≡ st .taken = omega arith in
@@ -175,9 +175,8 @@ returns-4 c =
       constructor = start .args .c;
       first = st .count;
       parts = start .args .parts;
-      weight = start .args .weight;
     })
-    (at-add-taken .add-taken .result) (at-push-parts2 .push-parts2 .result) same refl refl refl pn pw o room a (e .0) (omega arith)
+    (at-add-taken .add-taken .result) (at-push-parts2 .push-parts2 .result) same refl refl refl pn o room a (e .0) (omega arith)
     (rw (a .height, a .stack) at (e .2)) in
     let xv = e .0 .visited ∙ a .visited ∙ v in
     record {
