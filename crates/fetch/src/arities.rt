@@ -8,15 +8,14 @@ ghost use Rattle.fetch.specs.Indexed.{Indexed, constructorArity, functio
 use crate::index::arity_at;
 use readers::wide;
 
-// For the crates above: the arity of a constructor. The first block has all but that of the last of 64, which is in the second.
+// For the crates above: the arity of a constructor, by its number. The first block has all but that of the last of 64, which stands eight
+// places further, in the second.
 pub fn constructor_arity(file: &[u8], c: usize) -> usize
     requires { ⌜ Parsed (now file) × (c < byteAt (payload (now file)) 2) ⌝ }
     ensures { λ r. ⌜ r ≡ constructorArity (now (file .entry)) c ⌝ }
 {
-    if c < 63 {
-        return wide(file[9 + 8 * c]);
-    }
-    wide(file[521])
+    let at = 9 + 8 * (c + (c + 1) / 64);
+    wide(file[at])
 }
 
 // For the crates above: the arity of a function.
