@@ -9,7 +9,7 @@ use readers::wide;
 use store::put_cell;
 
 // The references that no cell has taken yet, from a place on, and how many cells are made.
-#[derive(Drop)]
+#[derive(Clone, Copy)]
 pub struct Pending {
     pub at: usize,
     pub used: usize,

@@ -4,7 +4,7 @@ use protocol::hex::Decoded;
 use protocol::words::{Number, Words};
 use protocol::{answers, hex, lent, words};
 
-#[derive(Drop)]
+#[derive(Clone, Copy)]
 enum Command {
     Pack,
     Unpack,

@@ -8,7 +8,7 @@ use protocol::answers;
 
 // The bytes from `from` up to `to` are not answered yet, and no line ends before `seen`. Of a line that is too long for the
 // buffer, `cut`, only the last bytes are there.
-#[derive(Drop)]
+#[derive(Clone, Copy)]
 pub struct Window {
     pub from: usize,
     pub seen: usize,

@@ -6,7 +6,7 @@ use protocol::words::{Number, Span, Words};
 use protocol::{answers, hex, lent, words};
 
 // The lengths of the lent tables and output, and the number of frames.
-#[derive(Drop)]
+#[derive(Clone, Copy)]
 struct Sizes {
     cells: usize,
     stack: usize,
@@ -14,14 +14,14 @@ struct Sizes {
     out: usize,
 }
 
-#[derive(Drop)]
+#[derive(Clone, Copy)]
 enum Sized {
     By(Sizes),
     Bad,
 }
 
 // A call: where its bytes stand in the line, and its numbers.
-#[derive(Drop)]
+#[derive(Clone, Copy)]
 struct Call {
     file: Span,
     entry: u32,
@@ -29,7 +29,7 @@ struct Call {
     budget: u32,
 }
 
-#[derive(Drop)]
+#[derive(Clone, Copy)]
 enum Called {
     With(Call),
     Bad,

@@ -4,14 +4,14 @@ use protocol::words::{Number, Words};
 use protocol::{answers, hex, lent, words};
 
 // The numbers of cons and nil, and the length of the output.
-#[derive(Drop)]
+#[derive(Clone, Copy)]
 struct Numbers {
     cons: u8,
     nil: u8,
     out: usize,
 }
 
-#[derive(Drop)]
+#[derive(Clone, Copy)]
 enum Read {
     As(Numbers),
     Bad,

@@ -9,7 +9,7 @@ use crate::places::offset_at;
 use blocks::payload_byte;
 
 // An instruction's record as a number, and where the next one stands.
-#[derive(Drop)]
+#[derive(Clone, Copy)]
 pub struct Fetched {
     pub word: u32,
     pub next: usize,

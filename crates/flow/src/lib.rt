@@ -14,7 +14,7 @@ use rules::answers::{Checked, Place, Reason};
 use rules::records::{Header, Instruction};
 
 // What leaves an instruction: the next one and a branch's else target, 0 for none; past: their paths have passed a build or call.
-#[derive(Drop)]
+#[derive(Clone, Copy)]
 pub struct FlowStep {
     pub wrong: bool,
     pub on: usize,

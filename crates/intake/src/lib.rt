@@ -11,7 +11,7 @@ fn at_end() -> bool {
 }
 
 // Bytes of standard input at a buffer's front: all of it, or as many as the buffer has.
-#[derive(Drop)]
+#[derive(Clone, Copy)]
 pub struct Input {
     pub read: bool,
     pub count: usize,

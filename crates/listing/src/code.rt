@@ -64,7 +64,7 @@ fn write_refused(i: usize, r: InstructionRecord) -> bool {
 }
 
 // What was listed of an instruction: whether the listing goes on behind it, whether its line could be written, and what it is.
-#[derive(Drop)]
+#[derive(Clone, Copy)]
 struct Listed {
     on: bool,
     written: bool,

@@ -9,7 +9,7 @@ use rules::records::AlternativeRecord;
 use standing::alternative_in;
 
 // A sum so far, and whether there is anything in it.
-#[derive(Drop)]
+#[derive(Clone, Copy)]
 struct Sum {
     line: Line,
     some: bool,
@@ -62,7 +62,7 @@ fn put_alternative(line: Line, r: AlternativeRecord) -> Line {
 }
 
 // A bound so far: how many alternatives are in it, and the offset behind them.
-#[derive(Drop)]
+#[derive(Clone, Copy)]
 struct Bound {
     line: Line,
     count: usize,

@@ -7,7 +7,7 @@ use rules::records::{Declaration, Instruction};
 use standing::{constructor_in, head_in};
 
 // What instructions can name: so many constructors, and so many functions, whose heads stand at these offsets.
-#[derive(Drop)]
+#[derive(Clone, Copy)]
 pub struct Names {
     pub constructors: u8,
     pub functions: u8,
@@ -15,7 +15,7 @@ pub struct Names {
 }
 
 // The stack that arrives at an instruction, if any does.
-#[derive(Drop)]
+#[derive(Clone, Copy)]
 pub struct Arrival {
     pub reached: bool,
     pub stack: Stack,

@@ -5,7 +5,7 @@ use libc::STDOUT_FILENO;
 use rules::answers::Verdict;
 
 // The text so far, with room for the line's end. The longest lines are the rules' sentences and bounds of four alternatives.
-#[derive(Drop)]
+#[derive(Clone, Copy)]
 pub struct Line {
     bytes: [u8; 320],
     count: usize,

@@ -10,7 +10,7 @@ use standing::{AlternativeFound, ConstructorFound, HeadFound, InstructionFound};
 mod counts; // counts.rt: the counts of a program that the check accepts
 
 // The lent blocks, and how many types, constructors and functions there are: 0 of each where the check refuses the blocks.
-#[derive(Drop)]
+#[derive(Clone, Copy)]
 pub struct OpenProgram<'a> {
     pub blocks: &'a [u8],
     pub types: u8,

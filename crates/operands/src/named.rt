@@ -10,7 +10,7 @@ use crate::stack::Stack;
 use rules::records::Declaration;
 
 // Whether there is a signature under a number, and then the signature.
-#[derive(Drop)]
+#[derive(Clone, Copy)]
 pub struct Lookup {
     pub known: bool,
     pub signature: Declaration,

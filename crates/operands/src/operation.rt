@@ -11,7 +11,7 @@ use crate::stack::Stack;
 use rules::records::{Declaration, Instruction};
 
 // What leaves an instruction: the next one, with this stack, and a branch's else target, with the stack as it was; 0 for none.
-#[derive(Drop)]
+#[derive(Clone, Copy)]
 pub struct TypedStep {
     pub wrong: bool,
     pub on: usize,

@@ -7,14 +7,14 @@ ghost use Rattle.operands.specs.Operands.{stack_of, InBounds, Holds, CutSays, en
 use rules::records::Declaration;
 
 // The top is at height - 1.
-#[derive(Drop)]
+#[derive(Clone, Copy)]
 pub struct Stack {
     pub height: usize,
     pub types: [u8; 16],
 }
 
 // What is below the types that a stack is to end in.
-#[derive(Drop)]
+#[derive(Clone, Copy)]
 pub struct Cut {
     pub wrong: bool,
     pub rest: Stack,

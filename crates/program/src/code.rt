@@ -9,7 +9,7 @@ ghost use Rattle.rules.specs.There.{FunctionThere};
 use readers::{alternative_offset, head, wide};
 
 // The offset of the first instruction, and the number of the last.
-#[derive(Drop)]
+#[derive(Clone, Copy)]
 pub struct Code {
     pub base: usize,
     pub last: usize,

@@ -9,7 +9,7 @@ pub const BYTE: u8 = 165;
 
 // What a run left in a table: all of it as it was filled, its usable entries zero and the rest as it was filled, both where no
 // entry is usable, or something else.
-#[derive(Drop)]
+#[derive(Clone, Copy)]
 pub enum Left {
     Kept,
     Zeroed,

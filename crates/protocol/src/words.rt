@@ -2,21 +2,21 @@
 ghost use Rattle.std.specs.Prelude.{◌<◌};
 
 // The bytes of a line from one place up to another.
-#[derive(Drop)]
+#[derive(Clone, Copy)]
 pub struct Span {
     pub from: usize,
     pub to: usize,
 }
 
 // The words of a line; of ten and more only ten are kept, since no command has so many.
-#[derive(Drop)]
+#[derive(Clone, Copy)]
 pub struct Words {
     pub starts: [usize; 10],
     pub ends: [usize; 10],
     pub count: usize,
 }
 
-#[derive(Drop)]
+#[derive(Clone, Copy)]
 pub enum Number {
     Of(u32),
     Bad,

@@ -6,7 +6,7 @@ ghost use Rattle.ranges.specs.Fetched.{fetched};
 use rules::records::{Instruction, InstructionRecord};
 
 // The instruction of a record, or none where its fields are out of range.
-#[derive(Drop)]
+#[derive(Clone, Copy)]
 pub enum Fetched {
     Is(Instruction),
     Bad,

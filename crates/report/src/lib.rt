@@ -9,7 +9,7 @@ ghost use Rattle.rules.specs.Base.{refusal as refusal_with};
 use rules::answers::{Place, Reason};
 
 // A refusal as it is printed and exported.
-#[derive(Drop)]
+#[derive(Clone, Copy)]
 pub struct Numbers {
     pub number: u8,
     pub first: usize,

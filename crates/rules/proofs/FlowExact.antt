@@ -145,6 +145,10 @@ first_state j {v} (◌l∷◌ {x} {xs} p ps) h = one (λ w. first_state j ps w) 
     one ih false h = ih h
 
 makes_true : (ins : Instruction) (p : Bool) → Makes ins → after_one ins p ≡ true
+makes_true (Load _) p m = elim m [ ]
+makes_true (Branch _ _) p m = elim m [ ]
+makes_true Return p m = elim m [ ]
+makes_true Stop p m = elim m [ ]
 makes_true (Build c) p m = refl
 makes_true (Call g) p m = refl
 

@@ -204,6 +204,7 @@ any_map f (there p) = there (any_map f p)
 
 -- what holds of all and of some holds of one together
 pub any_all : {A : Type 0} {P Q : A → Type 0} {Z : Type 0} → ((x : A) → P x → Q x → Z) → {xs : List A} → All P xs → Any Q xs → Z
+any_all {A = A} {P = P} {Q = Q} {Z = Z} f l[] x3 = elim x3 [ ]
 any_all f (◌l∷◌ {x} p ps) (here q) = f x p q
 any_all f (p l∷ ps) (there q) = any_all f ps q
 

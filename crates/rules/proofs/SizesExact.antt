@@ -160,6 +160,9 @@ module _ (s : Program) (n : ℕ) (f : Function) (S : ℕ → Option Shape) where
       tops e = ap (λ (p : List Expression × List Expression). p.1) e
 
   few_are : (i : ℕ) (ins : Instruction) (x : Shape) → wsh s n f S i ins x → Many s ins x → ⊥
+  few_are i (Load _) x _ x6 = elim x6 [ ]
+  few_are i Return x _ x6 = elim x6 [ ]
+  few_are i Stop x _ x7 = elim x7 [ ]
   few_are i (Build c) x (k, ck, rest, es, len, (e, few, o)) (k', ck', m) =
       let same : k' ≡ k = some_inj (sym ck' ∙ ck) in
       few_made x rest es (built c) e few (rw len (rw same at m))

@@ -30,6 +30,7 @@ all_in [] h = l[]
 all_in (x ∷ l) h = h x (here refl) l∷ all_in l (λ a m. h a (there m))
 
 in_all_lem : {A : Type 0} {P : A → Type 0} {l : List A} {a : A} → All P l → In a l → P a
+in_all_lem {A = A} {P = P} {a = a} l[] x3 = elim x3 [ ]
 in_all_lem (p l∷ ps) (here e) = rw e at p
 in_all_lem (p l∷ ps) (there m) = in_all_lem ps m
 
@@ -42,6 +43,8 @@ first_in [] e = none_some e
 first_in (y ∷ xs) e = here (some_inj e)
 
 first_one : {A : Type 0} (xs : List A) {x : A} → length xs ≤ 1 → In x xs → first xs ≡ some x
+first_one {A = A} [] h m = elim m [ ]
+first_one {A = A} (y ∷ []) h (there x13) = elim x13 [ ]
 first_one (y ∷ []) h (here e) = ap some e
 first_one (y ∷ z ∷ xs) h m = absurd (omega arith)
 
@@ -60,6 +63,7 @@ module _ {S : Type 0} where
 
   arrives : (A : List (Arrow S)) (a : Arrow S) → In a A → In a.1 (arriving a.0 A)
   unfolding arriving
+  arrives [] a x' = elim x' [ ]
   arrives (b ∷ A) a (here e) = rw (eq-eqb b.0 a.0 (ap (λ (x : Arrow S). x.0) e), arriving) (here (ap (λ (x : Arrow S). x.1) e))
   arrives (b ∷ A) a (there m) = go (eqb b.0 a.0) (arrives A a m)
     where
@@ -70,6 +74,7 @@ module _ {S : Type 0} where
   -- what arrives comes by an arrow
   pub arriving_in : (j : ℕ) (A : List (Arrow S)) {x : S} → In x (arriving j A) → In (j, x) A
   unfolding arriving
+  arriving_in j [] {x = x} m = elim m [ ]
   arriving_in j (a ∷ A) {x} m = one (λ q. arriving_in j A q) (eqb a.0 j) refl m
     where
       pair : (a : Arrow S) → a.0 ≡ j → a.1 ≡ x → a ≡ (j, x)

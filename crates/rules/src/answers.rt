@@ -2,14 +2,14 @@
 // documents 01 and 02.
 
 // An instruction of a function.
-#[derive(Drop)]
+#[derive(Clone, Copy)]
 pub struct Place {
     pub function: usize,
     pub instruction: usize,
 }
 
 // Why a program, a call, a payload or a survey is refused.
-#[derive(Drop)]
+#[derive(Clone, Copy)]
 pub enum Reason {
     // A damaged file.
     BadLength,
@@ -41,7 +41,7 @@ pub enum Reason {
 }
 
 // How many types, constructors and functions an accepted program has.
-#[derive(Drop)]
+#[derive(Clone, Copy)]
 pub struct Counts {
     pub types: u8,
     pub constructors: u8,
@@ -49,28 +49,28 @@ pub struct Counts {
 }
 
 // The answer of check.
-#[derive(Drop)]
+#[derive(Clone, Copy)]
 pub enum Verdict {
     Accepted(Counts),
     Refused(Reason),
 }
 
 // How many bytes: those that pack, unpack or lines wrote to the output's front, or those of a verified payload.
-#[derive(Drop)]
+#[derive(Clone, Copy)]
 pub enum Length {
     Bytes(usize),
     Refused(Reason),
 }
 
 // A rule, or all rules of one pass: they hold, or why they do not.
-#[derive(Drop)]
+#[derive(Clone, Copy)]
 pub enum Checked {
     Right,
     Refused(Reason),
 }
 
 // How a run ends: with a result of so many bytes, by the program's own stop, or refused.
-#[derive(Drop)]
+#[derive(Clone, Copy)]
 pub enum Ending {
     Result(usize),
     Aborted,
@@ -78,7 +78,7 @@ pub enum Ending {
 }
 
 // The answer of run.
-#[derive(Drop)]
+#[derive(Clone, Copy)]
 pub struct Answer {
     pub ending: Ending,
     pub steps: u32,

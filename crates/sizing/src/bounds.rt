@@ -8,7 +8,7 @@ use readers::{alternative, alternative_offset};
 use rules::records::AlternativeRecord;
 
 // A size bound: that of a build, with its weight, or that of the function whose head stands at an offset; and how many rows it has.
-#[derive(Drop)]
+#[derive(Clone, Copy)]
 pub struct Bound {
     pub built: bool,
     pub weight: u8,

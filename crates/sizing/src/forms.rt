@@ -11,7 +11,7 @@ use crate::bounds::{Bound, row_of};
 use rules::records::{Alternative, AlternativeRecord};
 
 // A size form: its first count alternatives.
-#[derive(Drop)]
+#[derive(Clone, Copy)]
 pub struct Form {
     pub alternatives: [Alternative; 16],
     pub count: usize,

@@ -65,7 +65,7 @@ pub fn entry_form(file: &[u8], st: Saved, i: usize) -> Form
 }
 
 // How the straight line ends: passed, with the number of the instruction behind it, or refused.
-#[derive(Drop)]
+#[derive(Clone, Copy)]
 pub enum Straight {
     Ends(usize),
     Refused(Reason),

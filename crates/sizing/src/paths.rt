@@ -6,7 +6,7 @@ ghost use Rattle.sizing.specs.Steps.{BranchAsks, Branching};
 use crate::splits::Split;
 
 // What arrives at an instruction before the first build or call.
-#[derive(Drop)]
+#[derive(Clone, Copy)]
 pub struct Saved {
     pub visited: bool,
     pub height: usize,
@@ -18,7 +18,7 @@ pub struct Saved {
 
 // What leaves an instruction: a state for the next one and one for the else target, where they are visited.
 // Where large, there would be more than 16 variables.
-#[derive(Drop)]
+#[derive(Clone, Copy)]
 pub struct Branched {
     pub large: bool,
     pub next: Saved,

@@ -11,7 +11,7 @@ use readers::{alternative_offset, constructor, constructor_offset, head, wide};
 use rules::records::Instruction;
 
 // A function: its arity, its size bound, where its code starts, and how many instructions that has.
-#[derive(Drop)]
+#[derive(Clone, Copy)]
 pub struct Routine {
     pub arity: usize,
     pub bound: Bound,
@@ -20,7 +20,7 @@ pub struct Routine {
 }
 
 // Whether an instruction makes an entry, then of how many, and the size bound of that.
-#[derive(Drop)]
+#[derive(Clone, Copy)]
 pub struct Maker {
     pub makes: bool,
     pub arity: usize,

@@ -10,7 +10,7 @@ use readers::{constructor, constructor_offset, wide};
 use rules::records::Alternative;
 
 // A variable taken apart: its constructor's arguments are the variables first, first + 1, .. in number parts.
-#[derive(Drop)]
+#[derive(Clone, Copy)]
 pub struct Split {
     pub variable: u8,
     pub constructor: u8,
@@ -19,7 +19,7 @@ pub struct Split {
 }
 
 // The splits of a path, oldest first.
-#[derive(Drop)]
+#[derive(Clone, Copy)]
 pub struct Splits {
     pub taken: usize,
     pub list: [Split; 16],

@@ -18,7 +18,7 @@ use rules::records::{Header, Instruction};
 
 // What leaves an instruction: a state for the slot of the next one and one for that of the else target, or for slot 0, which
 // is never read, where they are not visited; and the instruction to go on at.
-#[derive(Drop)]
+#[derive(Clone, Copy)]
 pub struct Moved {
     pub checked: Checked,
     pub next: Saved,

@@ -16,31 +16,31 @@ use rules::records::{
 mod extent; // extent.rt: how far the payload of lent blocks goes
 
 // What is found of a record: whether it is there whole, and then its fields.
-#[derive(Drop)]
+#[derive(Clone, Copy)]
 pub struct HeaderFound {
     pub there: bool,
     pub header: Header,
 }
 
-#[derive(Drop)]
+#[derive(Clone, Copy)]
 pub struct ConstructorFound {
     pub there: bool,
     pub constructor: ConstructorRecord,
 }
 
-#[derive(Drop)]
+#[derive(Clone, Copy)]
 pub struct HeadFound {
     pub there: bool,
     pub head: HeadRecord,
 }
 
-#[derive(Drop)]
+#[derive(Clone, Copy)]
 pub struct AlternativeFound {
     pub there: bool,
     pub alternative: AlternativeRecord,
 }
 
-#[derive(Drop)]
+#[derive(Clone, Copy)]
 pub struct InstructionFound {
     pub there: bool,
     pub instruction: InstructionRecord,

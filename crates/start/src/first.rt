@@ -11,7 +11,7 @@ use steps::{GOES, Registers};
 use store::Limits;
 
 // A run that has begun, or its refusal. Where it has begun: the program's index, what is usable of the tables, and the first frame.
-#[derive(Drop)]
+#[derive(Clone, Copy)]
 pub struct Begin {
     pub begun: bool,
     pub answer: Answer,

@@ -4,7 +4,7 @@ ghost use Rattle.steps.specs.Steps.{resting};
 
 // The top frame: its function, the place in the file of that function's code and of its own instruction, its part of the stack, the cells
 // in use, how many frames wait below it, the steps that are left. Where it rests: the function that it calls, and why.
-#[derive(Drop)]
+#[derive(Clone, Copy)]
 pub struct Registers {
     pub function: usize,
     pub code: usize,

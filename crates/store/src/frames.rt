@@ -4,7 +4,7 @@ ghost use Rattle.rules.specs.Memory.{table_after};
 ghost use Rattle.store.specs.Frames.{no_frame, frame_in, FramePut};
 
 // A frame that waits for the one above it: its function, the call that it stands at, and how many stack places are its own.
-#[derive(Drop)]
+#[derive(Clone, Copy)]
 pub struct Frame {
     pub function: u16,
     pub instruction: u16,

@@ -5,7 +5,7 @@ ghost use Rattle.store.specs.Cells.{CellRoom};
 ghost use Rattle.store.specs.Limits.{Wiped};
 
 // What is usable of the tables lent.
-#[derive(Drop)]
+#[derive(Clone, Copy)]
 pub struct Limits {
     pub cells: usize,
     pub stack: usize,

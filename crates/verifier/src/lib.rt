@@ -10,7 +10,7 @@ use rules::answers::{Checked, Counts, Length, Reason, Verdict};
 use rules::records::Header;
 
 // The verdict on a program, and what is kept of one that is accepted.
-#[derive(Drop)]
+#[derive(Clone, Copy)]
 pub struct Examined {
     pub verdict: Verdict,
     pub layout: Layout,
