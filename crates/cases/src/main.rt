@@ -1,4 +1,6 @@
 // Answers commands on standard input, one a line, with one line each. The words of commands and answers are the protocol's.
+#![tactic(auto)]
+
 
 mod commands; // commands.rt: one command
 mod input; // input.rt: the lines of standard input

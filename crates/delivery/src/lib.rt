@@ -1,4 +1,6 @@
 // After the last step: the result is counted and written, or the reason is said.
+#![tactic(auto)]
+
 ghost use Rattle.std.specs.Prelude.{◌≡◌, List, ℕ, ◌≤◌, ◌<◌, length};
 ghost use Rattle.rules.specs.Answers.{refusal_of, at_place};
 ghost use Rattle.rules.specs.Run.{Outcome, answer, finished};

@@ -1,5 +1,7 @@
 // What the interpreter reads of a program, from the lent blocks: arities, and instructions by their place. An index has the places of each
 // function.
+#![tactic(auto)]
+
 mod arities; // arities.rt: the arities of constructors and functions
 mod fetching; // fetching.rt: the instruction at a place
 mod index; // index.rt: where each function's arity and code stand

@@ -2,6 +2,8 @@
 // What is behind the block's end stands eight bytes further, behind the block's sum and the marks of the next one. Each kind of record is
 // said once, for the crates above: a caller that knows that a record ends in its block hands over the record's length, a constant, for
 // what is left, and the compiler leaves the test of each byte out.
+#![tactic(auto)]
+
 ghost use Rattle.std.specs.Prelude.{◌≡◌, ◌+◌};
 ghost use Rattle.rules.specs.Base.{byte_at, word_at};
 ghost use Rattle.rules.specs.Records.{four_at, header_at, declaration_at, constructor_at, head_at, alternative_at, instruction_at};

@@ -1,4 +1,6 @@
 // The flow pass, 7: where the paths of a function's code lead.
+#![tactic(auto)]
+
 ghost use Rattle.std.specs.Prelude.{◌≡◌, [], ◌∷◌, Bool, false, ◌&&◌, ℕ, suc, ◌≤◌, ltb, eqb};
 ghost use Rattle.std.proofs.Math.Option.{Option};
 ghost use Rattle.rules.specs.Answers.{told_check};

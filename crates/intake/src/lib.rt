@@ -1,4 +1,6 @@
 // Standard input as the programs that take one bytecode program read it.
+#![tactic(auto)]
+
 ghost use Rattle.std.specs.Prelude.{◌<◌, length};
 ghost use Rattle.io.specs.Counts.{IsPrefixLen as CountsFront};
 

@@ -1,4 +1,6 @@
 // A run on a frame table of its own, for callers that hold no record: lending one is not covered, so it is done here once.
+#![tactic(auto)]
+
 ghost use Rattle.std.specs.Prelude.{◌≤◌, min};
 ghost use Rattle.lending.specs.Here.{RunsHere};
 

@@ -1,4 +1,6 @@
 // The logger's text turned into a list argument.
+#![tactic(auto)]
+
 ghost use Rattle.std.specs.Prelude.{◌≡◌, length};
 ghost use Rattle.rules.specs.Answers.{told_length, length_of};
 ghost use Rattle.rules.specs.Lines.{lines_of};

@@ -1,5 +1,7 @@
 // Reads a program on standard input and writes a listing of it: the verdict, the rule that a refused program breaks, and the records
 // with the place of the refusal marked. Where the input cannot be read or a line cannot be written, the reason goes to standard error.
+#![tactic(auto)]
+
 ghost use Rattle.std.specs.Prelude.{◌≡◌, ◌<◌};
 ghost use Rattle.rules.specs.Answers.{told};
 ghost use Rattle.rules.specs.Base.{found};

@@ -1,4 +1,6 @@
 // Pack a payload into blocks, and unpack it again.
+#![tactic(auto)]
+
 ghost use Rattle.std.specs.Prelude.{◌≡◌, length};
 ghost use Rattle.rules.specs.Answers.{told_length, length_of};
 ghost use Rattle.rules.specs.Container.{pack as pack_of, unpack as unpack_of};

@@ -1,5 +1,7 @@
 // The entries for programs in other languages: numbers and byte slices only. Each returns 0, 100 or document 01's number, and tells the
 // rest in words of 32 bits, where the buffer for them is long enough.
+#![tactic(auto)]
+
 ghost use Rattle.std.specs.Prelude.{◌≡◌, min, length};
 ghost use Rattle.rules.specs.Answers.{check_words, length_words, length_of, code_of, words_into};
 ghost use Rattle.rules.specs.Check.{verdict_of};

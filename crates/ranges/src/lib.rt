@@ -1,4 +1,6 @@
 // Whether the fields of one record are in range, number 4, and the instruction that a record says.
+#![tactic(auto)]
+
 ghost use Rattle.std.specs.Prelude.{◌≡◌, leb};
 ghost use Rattle.rules.specs.Base.{within, all};
 ghost use Rattle.rules.specs.Records.{past_zero, header_right, declaration_right, constructor_right, head_right, alternative_right, operation};

@@ -1,6 +1,8 @@
 // The records of a payload: where each stands, and its fields, read from the lent blocks. Most records end in the block that they begin in,
 // and each reader asks for that once: one division finds the place of the record, and its bytes are read there. The others go on behind
 // the block's end.
+#![tactic(auto)]
+
 ghost use Rattle.std.specs.Prelude.{◌≡◌, ◌+◌, ◌≤◌, ◌<◌, length};
 ghost use Rattle.rules.specs.Container.{payload};
 ghost use Rattle.rules.specs.Records.{header_at, declaration_at, constructor_at, head_at, alternative_at, instruction_at, instruction_of};

@@ -1,4 +1,6 @@
 // The number and the two places by which a refusal is reported, and the line that tells a verdict.
+#![tactic(auto)]
+
 pub mod line;
 
 ghost use Rattle.std.specs.Prelude.{◌≡◌};

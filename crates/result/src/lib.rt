@@ -2,6 +2,8 @@
 // falls. Constants are taken at once, of the other arguments all but the last by a call and the last by going round: lists and numbers,
 // however long, take one call. The recursion gets the lent blocks behind one more reference: a slice has two words, and each call would
 // keep a copy of them.
+#![tactic(auto)]
+
 ghost use Rattle.std.specs.Prelude.{◌≡◌, ◌+◌, ◌≤◌, ◌<◌, length};
 ghost use Rattle.std.proofs.lemmas.List.Edits.{sets};
 ghost use Rattle.rules.specs.Memory.{front_written};

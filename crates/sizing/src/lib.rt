@@ -1,4 +1,6 @@
 // Rules 10 and 9: size forms and the cover test along every path of every function.
+#![tactic(auto)]
+
 mod bounds; // bounds.rt: size bounds where they stand
 mod cover; // cover.rt: whether a bound's form covers an entry's
 mod forms; // forms.rt: size forms, made of a bound and the forms of its arguments

@@ -1,5 +1,7 @@
 // Records by offset, as they stand in lent blocks, whether the blocks are right or not. Of a record that is not there whole every field
 // is 0.
+#![tactic(auto)]
+
 ghost use Rattle.std.specs.Prelude.{◌≡◌, []};
 ghost use Rattle.rules.specs.Records.{declaration_at};
 ghost use Rattle.standing.specs.Found.{header_found, constructor_found, head_found, alternative_found, instruction_found};

@@ -1,5 +1,7 @@
 // How a run begins: the program and its arguments are checked, there is room for the start, and the arguments are loaded. None of this
 // sees the frame table.
+#![tactic(auto)]
+
 ghost use Rattle.start.specs.Begins.{Prepares};
 
 use rules::answers::Verdict;

@@ -1,4 +1,6 @@
 // The top frame's own steps over the lent cells and stack: load, build and branch, until it rests. For the crates above.
+#![tactic(auto)]
+
 mod state; // state.rt: the top frame in registers
 mod steps; // steps.rt: load, build, branch, and the loop over them
 

@@ -1,4 +1,6 @@
 // The lent tables of a run: cells, stack places and frames. The one crate that knows how they are laid out. For the crates above.
+#![tactic(auto)]
+
 mod cells; // cells.rt: constants and cells by their number, five numbers to a cell
 mod copying; // copying.rt: at most four numbers copied
 mod frames; // frames.rt: frames stored, read and cleared, one record to a frame

@@ -4,6 +4,8 @@
 // The numbers: mode (1 check, 2 run, 3 lines), repetitions, length of program, length of arguments, entry, budget, lengths of the lent
 // cells (numbers), stack (numbers) and frames (numbers, three to a record), and the length of the output. For lines a text, a table,
 // and the numbers of cons and nil stand in the places of the program, the arguments, the entry and the budget.
+#![tactic(auto)]
+
 use blocks::long_at;
 use libc::{STDIN_FILENO, STDOUT_FILENO};
 use rules::answers::{Ending, Length, Verdict};

@@ -1,5 +1,7 @@
 // Reads a program on standard input and writes one line: accepted with three counts, or refused with the number and the places.
 // Where the input cannot be read or the line cannot be written, the reason goes to standard error instead.
+#![tactic(auto)]
+
 ghost use Rattle.std.specs.Prelude.{◌≡◌, length};
 ghost use Rattle.io.specs.Counts.{IsPrefixLen as CountsFront};
 ghost use Rattle.rules.specs.Check.{verdict_of};

@@ -1,4 +1,6 @@
 // The check of a program: 1 to 10 in the order of document 01.
+#![tactic(auto)]
+
 ghost use Rattle.std.specs.Prelude.{◌≡◌};
 ghost use Rattle.rules.specs.Answers.{told};
 ghost use Rattle.rules.specs.Check.{verdict_of};

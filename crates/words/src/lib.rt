@@ -1,4 +1,6 @@
 // An answer in words of 32 bits, and the words in bytes.
+#![tactic(auto)]
+
 ghost use Rattle.std.specs.Prelude.{◌≡◌, ◌+◌, ◌≤◌, ◌<◌, length, take, get_or};
 ghost use Rattle.rules.specs.Answers.{told, told_length, told_run, check_words, length_words, run_words, words_into};
 ghost use Rattle.rules.specs.Container.{bytes4};

@@ -1,0 +1,15 @@
+-- `blocks::verifying::checksum` meets its contract: the loop's sum is that of the bytes passed. Assumes nothing.
+use mathlib.Core.Path.{◌≡◌, refl, ap, sym, ◌∙◌}
+use Prim.Native.Nat.{◌≤◌, ◌*◌, ◌-◌, ◌+◌, ℕ}
+use native.Mathlib.Omega.{arith}
+use lib.ListN.{take, get_or}
+use Rattle.rules.specs.Container.{weighed, checksum}
+use Rattle.rules.proofs.ContainerLaws.{check_next}
+use Rattle.rules.proofs.SumLaws.{term_bound}
+use Rattle.blocks.proofs.verifying.checksum.Given as goal
+
+abbrev pub invariant-loop-i : goal.invariant-loop-i
+invariant-loop-i l = (l.i ≤ 508) × (l.sum ≤ 130560 * l.i) × (l.sum ≡ weighed 1 (take l.i l.b))
+
+abbrev pub decreases-loop-i : goal.decreases-loop-i
+decreases-loop-i l = 508 - l.i
