@@ -13,11 +13,11 @@ import sys
 
 ID = r"[A-Za-z\u0391-\u03ba\u03bc-\u03c9][A-Za-z0-9_'\-\u2080-\u209c]*"
 SEG = r"[A-Za-z0-9_'\-\u2080-\u209c]+"
-START = {'args', 'requires', 'pre', 'ranges', 'lifetimes'}
+START = {'args', 'requires', 'pre', 'ranges', 'lifetimes', 'well_formed', 'well-formed'}
 
 
 def norm(s):
-    return s.replace('_', '-')
+    return re.sub(r"-lem$", '', s.replace('_', '-')).lower()
 
 
 class Function:
@@ -59,6 +59,7 @@ class Function:
                 if pre and rest and rest[0].isdigit():
                     rest = [pre['fields'][int(rest[0])]] + rest[1:]
                 first = 'requires'
+            first = first.replace('-', '_')
             if self.t['args'] and rest:
                 for old, new in self.t['args']:
                     a, b = old.replace(' ', '').strip('.').split('.'), new.replace(' ', '').strip('.').split('.')
@@ -270,7 +271,14 @@ def turn(top, crate, folder, table):
         for notes, sig, unf, body, old, new in answers:
             out += [l for l in notes if l.startswith('--')]
             out += [sig] + unf + [body, '']
-        body = re.sub(r"not-(?:true|false) _ (c\.[\w.'-]+\.(?:true|false))(?![\w.'-])", r"\1", '\n'.join(out))
+        # a test of !x says of x what it said of not x
+        body = re.sub(r"not-(?:true|false) _ c(\.[\w.'-]+\.(?:true|false))(?![\w.'-])", '\x01\\1', '\n'.join(out))
+        body = re.sub(r"(?<![\w.'-])c\.if-not-[\w-]+\.(?:true|false)(?![\w.'-])", lambda m: '(ap not %s)' % m.group(), body)
+        body = body.replace('\x01', 'c')
+        if '(ap not ' in body:
+            for module_, word in (('mathlib.Core.Path', 'ap'), ('mathlib.Core.Bool', 'not')):
+                if not any(re.search(r"[{ ]%s[,}]" % word, u) for u in uses):
+                    uses = uses + ['use %s.{%s}' % (module_, word)]
         if shared:
             uses = uses + ['use Rattle.%s.proofs.%s.Goals.{%s}' % (crate, module, ', '.join(dict.fromkeys(shared)))]
         with open(os.path.join(folder, 'Answers.antt'), 'w', encoding='utf-8') as f:

@@ -14,7 +14,7 @@ use borrow.Author.Tests.{eqb-true, eqb-false, leb-true, leb-false, le-leb, lt-le
 use Rattle.rules.specs.Base.{Refusal, refusal, found, refused, all, if◌then◌else◌}
 use Rattle.rules.specs.Lines.{capital, letters_right, entries, table_right, same_letters, lookup, text_lines, code, codes}
 use Rattle.rules.specs.Lines.{list_of, in_room, lines_of}
-use Rattle.rules.specs.Lists.{All, ◌l∷◌, a[], ◌a∷◌}
+use Rattle.rules.specs.Lists.{l[], All, ◌l∷◌, a[], ◌a∷◌}
 use Rattle.rules.proofs.ListLaws.{none_some, some_inj, false_true, and_iff, all_iff, all2_length}
 use Rattle.rules.proofs.TriedLaws.{answers_exactly}
 use Rattle.rules.proofs.BlocksExact.{within_iff}
@@ -104,6 +104,7 @@ found_means (x ∷ es) l {c} e = one (same_letters (bytes_of x) (line_of l)) ref
 
 -- only letters of the table mean something, so they are capitals
 means_capitals : {es : List Entry} {l : Letters} {c : ℕ} → All (λ e. Capitals e.letters) es → Means es l c → Capitals l
+means_capitals l[] m = elim m [ ]
 means_capitals (k l∷ ks) here = k
 means_capitals (k l∷ ks) (later ne m) = means_capitals ks m
 

@@ -3,6 +3,3 @@ pub mod CellLaws
 pub mod CopyLaws
 pub mod FrameLaws
 pub mod LimitLaws
-pub mod Again
-pub mod Shared
-pub mod Local

@@ -1,0 +1,20 @@
+-- `bounded_arguments` meets its contract: at each turn an argument was found, or is still to be found in the alternatives from `k` on.
+use mathlib.Core.Path.{refl, ap, ◌∙◌}
+use Prim.Native.Nat.{◌-◌}
+use Rattle.rules.specs.Container.{payload}
+use Rattle.rules.specs.Records.{alternative_at}
+use Rattle.declarations.proofs.BoundLaws.{each_of_four, Finding, find_first, find_next, find_end}
+use borrow.Author.Rules.{rules}
+use Rattle.declarations.proofs.bounding.bounded_arguments.Goals as goal
+
+pub loop-k-init : goal.loop-k-init
+loop-k-init c = find_first (each_of_four _ refl refl refl refl)
+
+pub loop-k-preserved : goal.loop-k-preserved
+loop-k-preserved c =
+    find_next c.loop-k.invariant c.loop-k-test.true
+    (c.alternative-a.ensures ∙ ap (alternative_at (payload c.args.file.now)) c.alternative_offset.ensures)
+    c.joined-next.ensures
+
+pub returns : goal.returns
+returns c = find_end c.loop-k.invariant c.loop-k-test.false

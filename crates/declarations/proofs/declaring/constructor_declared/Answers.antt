@@ -1,0 +1,6 @@
+-- `constructor_declared` meets its contract: it is the definition, test by test.
+use borrow.Author.Rules.{rules}
+use Rattle.declarations.proofs.declaring.constructor_declared.Goals as goal
+
+pub returns : goal.returns
+returns c = cc

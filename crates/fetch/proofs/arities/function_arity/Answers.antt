@@ -1,0 +1,16 @@
+-- The index has the place of the arity.
+use mathlib.Core.Path.{◌∙◌}
+use Rattle.fetch.proofs.IndexLaws.{function_small, inputs_stand}
+use borrow.Author.Rules.{rules}
+use Rattle.fetch.proofs.arities.function_arity.Goals as goal
+
+pub arity_at-at-requires : goal.arity_at-at-requires
+arity_at-at-requires c = (function_small c.requires.0.parsed c.args.f c.requires.1).0
+
+pub bounds-file-at : goal.bounds-file-at
+bounds-file-at c =
+    (inputs_stand _ _ c.requires.0 c.args.f _ c.requires.1 c.arity_at-at.ensures).0
+
+pub returns : goal.returns
+returns c =
+    c.wide.ensures.0 ∙ (inputs_stand _ _ c.requires.0 c.args.f _ c.requires.1 c.arity_at-at.ensures).1

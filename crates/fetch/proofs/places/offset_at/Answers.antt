@@ -1,0 +1,17 @@
+-- `offset_at` meets its contract: behind the marks nothing is taken from too little.
+use borrow.Author.Rules.{rules}
+use native.Mathlib.Omega.{arith}
+use Rattle.fetch.specs.Places.{offset_at, Inside}
+use Rattle.fetch.proofs.places.offset_at.Goals as goal
+
+pub overflow_sub-result : goal.overflow_sub-result
+unfolding Inside
+overflow_sub-result c = omega arith
+
+pub overflow_sub-result-2 : goal.overflow_sub-result-2
+unfolding Inside
+overflow_sub-result-2 c = search rules
+
+pub returns : goal.returns
+unfolding offset_at
+returns c = search rules

@@ -1,0 +1,14 @@
+-- The loop keeps that each slot holds what has arrived there so far, and that the rules of the first k instructions have passed.
+use Prim.Native.Nat.{◌-◌, ◌≤◌}
+use native.Mathlib.Omega.{arith}
+use borrow.Author.Rules.{rules}
+use Rattle.rules.specs.Container.{payload}
+use Rattle.program.proofs.CodeLaws.{code_there, code_short, code_here_lem, code_read, base_small}
+use Rattle.flow.proofs.FlowLaws.{FlowOn, flow_start, flow_wrong, flow_next, flow_end, flow_room}
+use Rattle.flow.proofs.flow_of.Given as goal
+
+abbrev pub invariant-loop-k : goal.invariant-loop-k
+invariant-loop-k l = FlowOn (payload l.file) l.at l.g l.code l.k l.waiting
+
+abbrev pub decreases-loop-k : goal.decreases-loop-k
+decreases-loop-k l = l.code.last - l.k

@@ -1,0 +1,20 @@
+-- `run_here` meets its contract: the records that are usable are as many as the run has, with any of the tables. Assumes nothing.
+use mathlib.Core.Path.{◌≡◌, subst}
+use mathlib.Core.List.{List}
+use Prim.Native.Nat.{ℕ}
+use Rattle.rules.specs.declared.answers.Answer.{Answer}
+use Rattle.lending.specs.Here.{RunsHere}
+use borrow.Author.Rules.{rules}
+use Rattle.lending.proofs.run_here.Goals as goal
+
+pub returns-then-m-le256 : goal.returns-then-m-le256
+returns-then-m-le256 c =
+    counted (search rules) c.run_small.ensures
+
+pub returns-then-m-le4096 : goal.returns-then-m-le4096
+returns-then-m-le4096 c =
+    counted (search rules) c.run_medium.ensures
+
+pub returns : goal.returns
+returns c =
+    counted (search rules) c.run_large.ensures

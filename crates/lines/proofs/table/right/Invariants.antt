@@ -1,0 +1,16 @@
+-- `lines::table::right` meets its contract: the entries before the place are right, so the others decide. Assumes nothing.
+use Prim.Native.Nat.{◌+◌, ◌-◌, ◌%◌, ◌≤◌}
+use mathlib.Core.Path.{◌≡◌, sym, ◌∙◌}
+use native.Mathlib.Omega.{arith}
+use lib.ListN.{length, drop}
+use borrow.Author.Tests.{not-true, not-false}
+use Rattle.rules.specs.Base.{all}
+use Rattle.rules.specs.Lines.{letters_right, entries, table_right}
+use Rattle.lines.proofs.TableLaws.{entries_end, table_uneven, table_even, letters_wrong, letters_next}
+use Rattle.lines.proofs.table.right.Given as goal
+
+abbrev pub invariant-loop-at : goal.invariant-loop-at
+invariant-loop-at l = (l.at ≤ length l.table) × (l.at % 4 ≡ 0) × (table_right l.table ≡ all letters_right (entries (drop l.at l.table)))
+
+abbrev pub decreases-loop-at : goal.decreases-loop-at
+decreases-loop-at l = length l.table - l.at

@@ -1,0 +1,17 @@
+-- Where nothing was found the rule refuses; else it is that of the signature.
+use mathlib.Core.Path.{refl}
+use borrow.Author.Tests.{not-true, not-false}
+use Rattle.operands.specs.Operands.{stack_of, branched_to}
+use Rattle.operands.proofs.NamedLaws.{rule_missing, rule_found}
+use borrow.Author.Rules.{rules}
+use Rattle.operands.proofs.named.branch.Goals as goal
+
+pub returns-then-not-l : goal.returns-then-not-l
+returns-then-not-l c =
+    λ s n f o e. rule_missing e (λ o. branched_to s n f c.args.i o c.args.b (stack_of c.args.st)) refl
+    c.ends.ensures c.requires.0 (not-true _ c.if-not-l.true)
+
+pub returns : goal.returns
+returns c =
+    λ s n f o e. rule_found e (λ o. branched_to s n f c.args.i o c.args.b (stack_of c.args.st))
+    (not-false _ c.if-not-l.false) (c.fork.ensures s n f)

@@ -1,0 +1,17 @@
+-- `packing::writing::put` meets its contract: the bytes passed are pasted and summed. Assumes nothing.
+use Prim.Native.Nat.{◌≤◌, ◌-◌, ◌+◌, ◌*◌}
+use mathlib.Core.Path.{◌≡◌, refl}
+use native.Mathlib.Omega.{arith}
+use lib.ListN.{length, take, get_or}
+use lib.Seq.{take-length}
+use Rattle.rules.specs.Container.{weighed}
+use Rattle.rules.proofs.WriteLaws.{Pasted, pasted_start, pasted_next, pasted_end}
+use Rattle.rules.proofs.SumLaws.{term_bound, sum_start, sum_next}
+use Rattle.packing.proofs.writing.put.Given as goal
+
+abbrev pub invariant-loop-i : goal.invariant-loop-i
+invariant-loop-i l =
+    Pasted l.initial.out l.at l.bytes l.i l.out × (l.total ≤ 130560 * (l.at + l.i)) × (l.total ≡ l.sum + weighed (l.at + 1) (take l.i l.bytes))
+
+abbrev pub decreases-loop-i : goal.decreases-loop-i
+decreases-loop-i l = length l.bytes - l.i

@@ -1,0 +1,23 @@
+-- What is left of the form decides.
+use mathlib.Core.Path.{◌≡◌, refl, sym, ap, ◌∙◌}
+use Prim.Native.Nat.{◌≤◌, ◌-◌}
+use native.Mathlib.Omega.{arith}
+use lib.ListN.{drop}
+use mathlib.Core.Bool.{Bool}
+use borrow.Author.Tests.{not-true, not-false}
+use Rattle.rules.specs.declared.records.Alternative.{Alternative}
+use Rattle.rules.specs.Base.{any, all}
+use Rattle.rules.specs.Forms.{matches, covers}
+use Rattle.sizing.specs.declared.forms.Form.{Form}
+use Rattle.sizing.specs.Put.{no_alternative}
+use Rattle.sizing.specs.Forms.{form_in}
+use Rattle.sizing.proofs.CodeLaws.{all_next, all_stop, all_end}
+use Rattle.sizing.proofs.RightLaws.{form_length, form_at, form_wide}
+use borrow.Author.Rules.{rules}
+use Rattle.sizing.proofs.cover.covered_by.Given as goal
+
+abbrev pub invariant-loop-i : goal.invariant-loop-i
+invariant-loop-i l = (l.i ≤ l.n) × (covers (form_in l.bound) (form_in l.form) ≡ all (in-bound l.bound) (drop l.i (form_in l.form)))
+
+abbrev pub decreases-loop-i : goal.decreases-loop-i
+decreases-loop-i l = l.n - l.i

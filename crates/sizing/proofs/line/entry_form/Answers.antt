@@ -1,0 +1,10 @@
+-- A variable alone, taken through the splits.
+use borrow.Author.Rules.{rules}
+use Rattle.sizing.proofs.line.entry_form.Goals as goal
+
+pub carry-requires : goal.carry-requires
+carry-requires c =
+    (c.requires.0, rw c.unit.ensures c.requires.1.carrying)
+
+pub returns : goal.returns
+returns c = rw (c.carry.ensures, c.unit.ensures) at c.single.ensures

@@ -1,0 +1,66 @@
+-- One number after the other, as many as are asked for; what is copied lies before what is written.
+use mathlib.Core.Path.{◌≡◌}
+use native.Mathlib.Omega.{arith}
+use Rattle.store.proofs.CopyLaws.{copied_none, copied_one, again_two, again_three, again_four}
+use borrow.Author.Rules.{rules}
+use Rattle.store.proofs.copying.copy_within.Goals as goal
+
+pub returns-then-n-eq0 : goal.returns-then-n-eq0
+returns-then-n-eq0 c =
+    let a = c.args in
+    let e : a.n ≡ 0 = omega arith in
+    rw e (copied_none a.s.now a.at a.to a.s.now)
+
+pub returns-then-n-eq1 : goal.returns-then-n-eq1
+returns-then-n-eq1 c =
+    let a = c.args in
+    let e : a.n ≡ 1 = omega arith in
+    rw e (copied_one a.s.now a.at a.to a.s.now (omega arith))
+
+pub bounds-s-at-2 : goal.bounds-s-at-2
+bounds-s-at-2 c =
+    let a = c.args in
+    omega (arith, (copied_one a.s.now a.at a.to a.s.now (omega arith)).len)
+
+pub bounds-s-to-2 : goal.bounds-s-to-2
+bounds-s-to-2 c =
+    let a = c.args in
+    omega (arith, (copied_one a.s.now a.at a.to a.s.now (omega arith)).len)
+
+pub returns-then-n-eq2 : goal.returns-then-n-eq2
+returns-then-n-eq2 c =
+    let a = c.args in
+    let e : a.n ≡ 2 = omega arith in
+    rw e (again_two a.at a.to a.s.now (omega arith) (omega arith))
+
+pub bounds-s-at-3 : goal.bounds-s-at-3
+bounds-s-at-3 c =
+    let a = c.args in
+    omega (arith, (again_two a.at a.to a.s.now (omega arith) (omega arith)).len)
+
+pub bounds-s-to-3 : goal.bounds-s-to-3
+bounds-s-to-3 c =
+    let a = c.args in
+    omega (arith, (again_two a.at a.to a.s.now (omega arith) (omega arith)).len)
+
+pub returns-then-n-eq3 : goal.returns-then-n-eq3
+returns-then-n-eq3 c =
+    let a = c.args in
+    let e : a.n ≡ 3 = omega arith in
+    rw e (again_three a.at a.to a.s.now (omega arith) (omega arith))
+
+pub bounds-s-at-4 : goal.bounds-s-at-4
+bounds-s-at-4 c =
+    let a = c.args in
+    omega (arith, (again_three a.at a.to a.s.now (omega arith) (omega arith)).len)
+
+pub bounds-s-to-4 : goal.bounds-s-to-4
+bounds-s-to-4 c =
+    let a = c.args in
+    omega (arith, (again_three a.at a.to a.s.now (omega arith) (omega arith)).len)
+
+pub returns : goal.returns
+returns c =
+    let a = c.args in
+    let e : a.n ≡ 4 = omega arith in
+    rw e (again_four a.at a.to a.s.now (omega arith) (omega arith))

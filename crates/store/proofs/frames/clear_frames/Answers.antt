@@ -1,0 +1,19 @@
+-- Each turn makes one frame more a zero.
+use Rattle.std.proofs.Common.{◌≡◌, ap, ◌∙◌, arith}
+use lib.ListN.{set}
+use Rattle.store.specs.declared.frames.Frame.{Frame}
+use Rattle.store.specs.Frames.{no_frame}
+use Rattle.store.proofs.LimitLaws.{one_zero, zero_length, zero_all}
+use Rattle.store.proofs.frames.clear_frames.Goals as goal
+
+pub loop-i-preserved : goal.loop-i-preserved
+loop-i-preserved c =
+    let l = c.loop-i in
+    let i = l.i in
+    (omega arith, rw l.invariant.1 (one_zero i c.args.frames.now (omega (arith, l.invariant.1))))
+
+pub returns : goal.returns
+returns c =
+    let l = c.loop-i in
+    let e : l.i ≡ c.args.n = omega arith in
+    l.invariant.1 ∙ rw e (zero_all c.args.n c.args.frames.now c.requires)

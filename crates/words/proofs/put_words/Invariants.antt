@@ -1,0 +1,12 @@
+-- By the invariant that the words so far stand at the front.
+use Prim.Native.Nat.{◌-◌, ◌≤◌}
+use native.Mathlib.Omega.{arith}
+use Rattle.words.proofs.WordLaws.{Fronted, fronted_none, fronted_next, all_fronted, none_fronted}
+use borrow.Author.Rules.{rules}
+use Rattle.words.proofs.put_words.Given as goal
+
+abbrev pub invariant-loop-i : goal.invariant-loop-i
+invariant-loop-i l = (l.i ≤ l.n) × Fronted l.words l.initial.answer l.i l.answer
+
+abbrev pub decreases-loop-i : goal.decreases-loop-i
+decreases-loop-i l = l.n - l.i
