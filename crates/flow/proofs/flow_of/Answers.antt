@@ -19,12 +19,11 @@ instruction_offset-requires c =
     (omega (arith, base_small c.loop-k.invariant.code), omega (arith, code_short c.loop-k.invariant.code))
 
 pub instruction-ins-requires : goal.instruction-ins-requires
-instruction-ins-requires c =
-    (
-      c.requires.0,
-      code_here_lem c.loop-k.invariant.code c.loop-k.k c.instruction_offset.ensures
-          c.loop-k-test.true,
-    )
+instruction-ins-requires c = (
+  c.requires.0,
+  code_here_lem c.loop-k.invariant.code c.loop-k.k c.instruction_offset.ensures
+      c.loop-k-test.true,
+)
 
 pub bounds-waiting-i : goal.bounds-waiting-i
 bounds-waiting-i c =
@@ -47,7 +46,10 @@ slots c =
     c.instruction-ins.ensures) c.flow_step-step.ensures
 
 pub bounds-waiting-to : goal.bounds-waiting-to
-bounds-waiting-to c = omega (arith, slots c)
+bounds-waiting-to c =
+    let room = flow_room _ _ _ _ c.loop-k.invariant c.loop-k-test.true
+    (code_read c.loop-k.invariant.code c.loop-k.k c.instruction_offset.ensures c.instruction-ins.ensures) c.flow_step-step.ensures in
+    omega (arith, room)
 
 pub bounds-waiting-to-in-loop-k : goal.bounds-waiting-to-in-loop-k
 bounds-waiting-to-in-loop-k c = omega (arith, slots (goal.at.bounds-waiting-to-in-loop-k c).Else-step)

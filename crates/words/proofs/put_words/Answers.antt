@@ -23,12 +23,11 @@ put_word-requires c =
     omega (arith, c.loop-i.invariant.1.same, c.if-answer-n.false)
 
 pub loop-i-preserved : goal.loop-i-preserved
-loop-i-preserved c =
-    (
-      omega arith,
-      fronted_next _ _ c.loop-i.invariant.1 (omega (arith, c.well_formed, c.requires)) (search rules)
-          c.put_word.ensures,
-    )
+loop-i-preserved c = (
+  omega arith,
+  fronted_next _ _ c.loop-i.invariant.1 (omega (arith, c.well_formed, c.requires)) (search rules)
+      c.put_word.ensures,
+)
 
 pub shape_of-answer : goal.shape_of-answer
 shape_of-answer c =

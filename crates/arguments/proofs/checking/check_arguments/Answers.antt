@@ -42,13 +42,12 @@ put_types-requires c =
     )
 
 pub loop-i-init : goal.loop-i-init
-loop-i-init c =
-    (
-      parameters_put _ c.args.head c.requires.head_there c.declaration-d.result c.declaration-d.ensures _ _
-          c.wide-at.result c.wide-at.ensures.0 _ _ (search rules) c.put_types.ensures,
-      search rules,
-      c.wide-known.ensures.0 ∙ c.payload_byte.ensures,
-    )
+loop-i-init c = (
+  parameters_put _ c.args.head c.requires.head_there c.declaration-d.result c.declaration-d.ensures _ _
+      c.wide-at.result c.wide-at.ensures.0 _ _ (search rules) c.put_types.ensures,
+  search rules,
+  c.wide-known.ensures.0 ∙ c.payload_byte.ensures,
+)
 
 pub read_byte-next-requires : goal.read_byte-next-requires
 read_byte-next-requires c =
@@ -63,14 +62,13 @@ returns-then-next-eq257 c =
     c.if-next-eq257.true)
 
 pub loop-i-preserved : goal.loop-i-preserved
-loop-i-preserved c =
-    (
-      reading_next _ _ _ c.loop-i.i c.loop-i.types c.loop-i.at c.loop-i.invariant.0
-          (omega arith) _ c.read_byte-next.result c.wide.result c.wide.ensures.0
-          c.read_byte-next.ensures c.if-next-eq257.false,
-      search rules,
-      c.loop-i.invariant.2,
-    )
+loop-i-preserved c = (
+  reading_next _ _ _ c.loop-i.i c.loop-i.types c.loop-i.at c.loop-i.invariant.0
+      (omega arith) _ c.read_byte-next.result c.wide.result c.wide.ensures.0
+      c.read_byte-next.ensures c.if-next-eq257.false,
+  search rules,
+  c.loop-i.invariant.2,
+)
 
 pub returns-then-at-lt256 : goal.returns-then-at-lt256
 returns-then-at-lt256 c =

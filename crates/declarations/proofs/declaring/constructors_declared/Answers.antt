@@ -17,12 +17,11 @@ pub loop-k-init : goal.loop-k-init
 loop-k-init c = pass_first
 
 pub constructor-c-requires : goal.constructor-c-requires
-constructor-c-requires c =
-    (
-      c.requires.parsed.verified,
-      rw c.constructor_offset.ensures (constructor_there c.requires c.loop-k.k
-          c.loop-k-test.true).0,
-    )
+constructor-c-requires c = (
+  c.requires.parsed.verified,
+  rw c.constructor_offset.ensures (constructor_there c.requires c.loop-k.k
+      c.loop-k-test.true).0,
+)
 
 pub constructor_declared-requires : goal.constructor_declared-requires
 constructor_declared-requires c =

@@ -25,12 +25,11 @@ pub bounds-heads-g : goal.bounds-heads-g
 bounds-heads-g c = omega (arith, functions_few c.requires.headed)
 
 pub declaration-d-requires : goal.declaration-d-requires
-declaration-d-requires c =
-    (
-      c.requires.headed.parsed.verified,
-      omega
-          (arith, c.requires.headed.parsed.verified.small, (function_placed c.requires c.loop-g.g c.loop-g-test.true).head),
-    )
+declaration-d-requires c = (
+  c.requires.headed.parsed.verified,
+  omega
+      (arith, c.requires.headed.parsed.verified.small, (function_placed c.requires c.loop-g.g c.loop-g-test.true).head),
+)
 
 pub types_below-requires : goal.types_below-requires
 types_below-requires c =

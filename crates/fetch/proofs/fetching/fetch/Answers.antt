@@ -14,12 +14,11 @@ overflow_add-result c =
     omega (arith, place_small c.args.at (omega (arith, c.requires.2, c.requires.0.small)))
 
 pub returns-then-at-gt504 : goal.returns-then-at-gt504
-returns-then-at-gt504 c =
-    (
-      rw c.offset_at.ensures at c.apart.ensures,
-      behind_over c.args.at (omega (arith, c.if-at-gt504.true)),
-      omega (arith, place_small c.args.at (omega (arith, c.requires.2, c.requires.0.small))),
-    )
+returns-then-at-gt504 c = (
+  rw c.offset_at.ensures at c.apart.ensures,
+  behind_over c.args.at (omega (arith, c.if-at-gt504.true)),
+  omega (arith, place_small c.args.at (omega (arith, c.requires.2, c.requires.0.small))),
+)
 
 pub bounds-file-at : goal.bounds-file-at
 bounds-file-at c =
@@ -38,9 +37,8 @@ bounds-file-at-4 c =
     omega (arith, block_room c.requires.0 c.args.at c.requires.1 c.requires.2 c.if-at-gt504.false)
 
 pub returns : goal.returns
-returns c =
-    (
-      block_word c.requires.0 c.args.at c.requires.1 c.requires.2 c.if-at-gt504.false c.joined.ensures,
-      behind_near c.args.at 1 c.requires.1 (omega (arith, c.if-at-gt504.false)),
-      omega (arith, place_small c.args.at (omega (arith, c.requires.2, c.requires.0.small))),
-    )
+returns c = (
+  block_word c.requires.0 c.args.at c.requires.1 c.requires.2 c.if-at-gt504.false c.joined.ensures,
+  behind_near c.args.at 1 c.requires.1 (omega (arith, c.if-at-gt504.false)),
+  omega (arith, place_small c.args.at (omega (arith, c.requires.2, c.requires.0.small))),
+)

@@ -12,9 +12,9 @@ returns c =
     let second = c.put_number-after_second.ensures in
     let third = c.put_number-after_third.ensures in
     let end = c.put.ensures in
-    let f = front_first c.args.word.now c.args.line.now word.0 word.1 in
-    let f₁ = front_next _ (spaced c.args.first) _ f first.0.0 first.1 in
-    let f₂ = front_next _ (spaced c.args.second) _ f₁ second.0.0 second.1 in
-    let f₃ = front_next _ (spaced c.args.third) _ f₂ third.0.0 third.1 in
-    let f₄ = front_next _ (10 ∷ []) _ f₃ end.0 end.1 in
-    (f₄.place, f₄.written)
+    let f = front_first c.args.word.now c.args.line.now word.value word.line_after in
+    let f₁ = front_next _ (spaced c.args.first) _ f first.value.0 first.line_after in
+    let f₂ = front_next _ (spaced c.args.second) _ f₁ second.value.0 second.line_after in
+    let f₃ = front_next _ (spaced c.args.third) _ f₂ third.value.0 third.line_after in
+    let f₄ = front_next _ (10 ∷ []) _ f₃ end.value end.line_after in
+    record { value = f₄.place; line_after = f₄.written }

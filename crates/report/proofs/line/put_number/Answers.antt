@@ -8,18 +8,18 @@ use Rattle.report.proofs.line.put_number.Goals as goal
 pub put-requires : goal.put-requires
 put-requires c =
     let spelt = c.decimal-count in
-    number_room c.args.at c.put-behind.ensures.0 (few_digits _ _ spelt.ensures.1.0 (omega (arith, c.ranges.n)))
-    spelt.ensures.0.1 c.requires (search rules)
+    number_room c.args.at c.put-behind.ensures.value (few_digits _ _ spelt.ensures.len (omega (arith, c.ranges.n)))
+    spelt.ensures.in_bounds.1 c.requires (search rules)
 
 pub returns : goal.returns
 returns c =
     let spelt = c.decimal-count in
     let first = c.put-behind in
     let second = c.put in
-    let few = few_digits _ _ spelt.ensures.1.0 (omega (arith, c.ranges.n)) in
-    let e = number_put _ c.args.at c.args.n spelt.result spelt.ensures.1.0 few spelt.ensures.1.1 c.requires
-    first.ensures.0 first.ensures.1 second.ensures.1 in (
-      number_long c.args.at c.args.n spelt.result spelt.ensures.1.0 few spelt.ensures.0.1 spelt.ensures.1.1
-          first.ensures.0 second.ensures.0,
-      e,
-    )
+    let few = few_digits _ _ spelt.ensures.len (omega (arith, c.ranges.n)) in
+    let e = number_put _ c.args.at c.args.n spelt.result spelt.ensures.len few spelt.ensures.digits c.requires
+    first.ensures.value first.ensures.line_after second.ensures.line_after in record {
+      value = number_long c.args.at c.args.n spelt.result spelt.ensures.len few spelt.ensures.in_bounds.1 spelt.ensures.digits
+          first.ensures.value second.ensures.value;
+      line_after = e;
+    }

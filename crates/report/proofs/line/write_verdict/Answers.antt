@@ -7,11 +7,13 @@ use Rattle.report.proofs.line.write_verdict.Goals as goal
 
 pub returns-in-Accepted : goal.returns-in-Accepted
 returns-in-Accepted c =
-    counts_front (verdict_line (told c.args.verdict)) c.args.line.now
-    (rw c.in-Accepted.is c.put_line.ensures)
+    let w = counts_front (verdict_line (told c.args.verdict)) c.args.line.now
+    (rw c.in-Accepted.is (c.put_line.ensures.value, c.put_line.ensures.line_after)) in
+    record { counts_front = w.0; value = w.1.0; line_after = w.1.1 }
 
 pub returns-in-Refused : goal.returns-in-Refused
 returns-in-Refused c =
-    counts_front (verdict_line (told c.args.verdict)) c.args.line.now
-    (refused_line _ c.numbers_of-it.result c.args.line.now c.in-Refused.is
-    c.numbers_of-it.ensures c.put_line-in-Refused.ensures)
+    let e = c.put_line-in-Refused.ensures in
+    let w = counts_front (verdict_line (told c.args.verdict)) c.args.line.now
+    (refused_line _ c.numbers_of-it.result c.args.line.now c.in-Refused.is c.numbers_of-it.ensures (e.value, e.line_after)) in
+    record { counts_front = w.0; value = w.1.0; line_after = w.1.1 }

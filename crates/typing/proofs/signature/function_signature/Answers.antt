@@ -14,11 +14,10 @@ bounds-heads-wide c =
     omega (arith, functions_few c.requires.headed, c.wide.ensures.0, c.if-g-header.false)
 
 pub declaration-requires : goal.declaration-requires
-declaration-requires c =
-    (
-      c.requires.headed.parsed.verified,
-      rw c.wide.ensures.0 (omega (arith, (function_placed c.requires c.args.g c.if-g-header.false).head)),
-    )
+declaration-requires c = (
+  c.requires.headed.parsed.verified,
+  rw c.wide.ensures.0 (omega (arith, (function_placed c.requires c.args.g c.if-g-header.false).head)),
+)
 
 pub returns : goal.returns
 returns c =

@@ -55,12 +55,11 @@ instruction_offset-requires c =
     (omega (arith, base_small c.loop-k.invariant.code), omega (arith, code_short c.loop-k.invariant.code))
 
 pub instruction-ins-requires : goal.instruction-ins-requires
-instruction-ins-requires c =
-    (
-      c.requires.1.headed.parsed.verified,
-      code_here_lem c.loop-k.invariant.code c.loop-k.k
-          c.instruction_offset.ensures c.loop-k-test.true,
-    )
+instruction-ins-requires c = (
+  c.requires.1.headed.parsed.verified,
+  code_here_lem c.loop-k.invariant.code c.loop-k.k
+      c.instruction_offset.ensures c.loop-k-test.true,
+)
 
 pub offset_bounds-waiting-i : goal.offset_bounds-waiting-i
 offset_bounds-waiting-i c = omega (arith, code_short c.loop-k.invariant.code)
@@ -69,16 +68,15 @@ pub bounds-waiting-i : goal.bounds-waiting-i
 bounds-waiting-i c = omega (arith, code_short c.loop-k.invariant.code)
 
 pub type_step-typed-requires : goal.type_step-typed-requires
-type_step-typed-requires c =
-    (
-      c.requires.1,
-      here_sound _ _ _ _ c.loop-k.invariant c.loop-k-test.true,
-      omega
-          (arith, code_short c.loop-k.invariant.code),
-      here_aims _ _ _ _ c.loop-k.invariant c.loop-k-test.true
-          (code_read c.loop-k.invariant.code c.loop-k.k c.instruction_offset.ensures
-          c.instruction-ins.ensures),
-    )
+type_step-typed-requires c = (
+  c.requires.1,
+  here_sound _ _ _ _ c.loop-k.invariant c.loop-k-test.true,
+  omega
+      (arith, code_short c.loop-k.invariant.code),
+  here_aims _ _ _ _ c.loop-k.invariant c.loop-k-test.true
+      (code_read c.loop-k.invariant.code c.loop-k.k c.instruction_offset.ensures
+      c.instruction-ins.ensures),
+)
 
 pub returns-then-typed : goal.returns-then-typed
 returns-then-typed c =
