@@ -15,8 +15,8 @@ use Rattle.sizing.specs.States.{stack_in, splits_in}
 use Rattle.sizing.specs.Forms.{form_in, FormRight, no_form}
 
 -- the own bound at the parameters
-abbrev pub field_own : Program → Function → forms.Form
-field_own s f = into_bound f.bound (map (form_of s) (variables 0 (arity f)))
+abbrev pub own_at : Program → Function → forms.Form
+own_at s f = into_bound f.bound (map (form_of s) (variables 0 (arity f)))
 
 -- a path's splits; own: the function's bound at the parameters, before the splits
 pub record Path (s : Program) (own : forms.Form) (n : ℕ) (ps : List Split) (count : ℕ) : Type 0 where
@@ -34,7 +34,7 @@ abbrev pub shape_in : Function → Saved → Shape
 shape_in f st = shape_of f (splits_in st) st.count (stack_in st)
 
 pub record SavedRight (s : Program) (f : Function) (st : Saved) : Type 0 where
-  pub path : Path s (field_own s f) (arity f) (splits_in st) st.count
+  pub path : Path s (own_at s f) (arity f) (splits_in st) st.count
   pub under : AllUnder st.count (stack_in st)
   pub high : st.height ≤ 16
   pub long : length st.stack ≡ 16

@@ -52,7 +52,7 @@ loop-i-init c = (
 pub read_byte-next-requires : goal.read_byte-next-requires
 read_byte-next-requires c =
     let i = c.loop-i.invariant in
-    (c.requires.parsed, (i.0.low, i.0.long, i.2))
+    record { parsed = c.requires.parsed; at_bound = (i.0.low, i.0.long, i.2) }
 
 pub returns-then-next-eq257 : goal.returns-then-next-eq257
 returns-then-next-eq257 c =

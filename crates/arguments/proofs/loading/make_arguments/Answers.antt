@@ -10,6 +10,7 @@ use Rattle.arguments.specs.Loading.{MadeFrom}
 use Rattle.arguments.proofs.LoadingLaws.{made_none, made_all, byte_known, byte_few, byte_room, byte_fits, byte_constant, byte_cell}
 use borrow.Author.Rules.{rules}
 use Rattle.arguments.proofs.loading.make_arguments.Goals.{After-constructor_arity-n}
+use Rattle.arguments.proofs.loading.make_arguments.Goals.{then-n-ne0, else-n-ne0}
 use Rattle.arguments.proofs.loading.make_arguments.Goals as goal
 
 -- the byte's arguments are among the references, and with the new one they fit
@@ -77,14 +78,14 @@ pub loop-i-preserved : goal.loop-i-preserved
 loop-i-preserved c =
     let l = c.loop-i in
     let a = c.requires.loading in
-    let w = c.wide-c.ensures.0 in
+    let k = c.wide-c.ensures.0 in
     let q = c.constructor_arity-n.ensures in (
-      ⊎_elim
-          (λ x. rw (x.6, x.7, x.8 ∙ x.3.ensures.0)
-          (byte_cell a l.i (omega arith) l.invariant.1 w q l.invariant.0 l.invariant.2 x.0.taken x.3.ensures.1))
-          (λ x. rw (x.1, x.2, x.3)
-          (byte_constant a l.i (omega arith) l.invariant.1 w q l.invariant.0 l.invariant.2 x.0.left))
-          c.if-n-ne0.branch,
+      elim c.if-n-ne0.branch [
+        | then-n-ne0 w ↦ rw (w.cells-is, w.used-is, w.number-is ∙ w.put_cell-number.ensures.0)
+            (byte_cell a l.i (omega arith) l.invariant.1 k q l.invariant.0 l.invariant.2 w.if-n-ne0.true w.put_cell-number.ensures.1)
+        | else-n-ne0 w ↦ rw (w.cells-is, w.used-is, w.number-is)
+            (byte_constant a l.i (omega arith) l.invariant.1 k q l.invariant.0 l.invariant.2 w.if-n-ne0.false)
+      ],
       omega (arith, l.invariant.1),
       simp length-set l.invariant.2,
     )

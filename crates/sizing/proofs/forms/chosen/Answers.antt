@@ -20,12 +20,11 @@ returns-then-n-gt16 c =
     (λ z. absurd (omega (arith, z, c.requires.5))) c.if-n-gt16.true c.no_form-x.result c.no_form-x.ensures.1
 
 pub loop-i-init : goal.loop-i-init
-loop-i-init c =
-    (
-      search rules,
-      choosing_start c.args.m c.args.form c.args.rest c.requires.1 c.requires.2 c.requires.3
-          c.requires.4 c.no_form-x.result c.no_form-x.ensures.0,
-    )
+loop-i-init c = (
+  search rules,
+  choosing_start c.args.m c.args.form c.args.rest c.requires.1 c.requires.2 c.requires.3
+      c.requires.4 c.no_form-x.result c.no_form-x.ensures.0,
+)
 
 pub offset_bounds-form-i : goal.offset_bounds-form-i
 offset_bounds-form-i c =
@@ -70,13 +69,12 @@ bounds-x-i c =
     let f = c.if-n-gt16.false in let l = c.loop-i-test.true in omega arith
 
 pub loop-i-preserved : goal.loop-i-preserved
-loop-i-preserved c =
-    (
-      omega arith,
-      choosing_next c.args.m c.args.form c.args.rest c.requires.1 c.requires.2 c.requires.3
-          c.requires.4 c.loop-i.i c.loop-i-test.true c.if-n-gt16.false c.loop-i.x c.plus.result
-          c.loop-i.invariant.1 c.plus.ensures,
-    )
+loop-i-preserved c = (
+  omega arith,
+  choosing_next c.args.m c.args.form c.args.rest c.requires.1 c.requires.2 c.requires.3
+      c.requires.4 c.loop-i.i c.loop-i-test.true c.if-n-gt16.false c.loop-i.x c.plus.result
+      c.loop-i.invariant.1 c.plus.ensures,
+)
 
 pub returns : goal.returns
 returns c =

@@ -199,13 +199,12 @@ pub bounds-stack-at-in-loop-m-3 : goal.bounds-stack-at-in-loop-m-3
 bounds-stack-at-in-loop-m-3 c = omega (arith, low (goal.at.bounds-stack-at-in-loop-m-3 c).After-struct_known-in-loop-m-2-1)
 
 pub into_bound-x-requires : goal.into_bound-x-requires
-into_bound-x-requires c =
-    (
-      c.requires.walking.records.verified,
-      (making (goal.at.into_bound-x-requires c).After-struct_known-in-loop-m-2-1).bound,
-      line_arguments c.requires (goes (goal.at.into_bound-x-requires c).At-loop-m) c.instruction-ins.result (is (goal.at.into_bound-x-requires c).After-instruction-ins) c.maker_of-m.result
-          (making (goal.at.into_bound-x-requires c).After-struct_known-in-loop-m-2-1),
-    )
+into_bound-x-requires c = (
+  c.requires.walking.records.verified,
+  (making (goal.at.into_bound-x-requires c).After-struct_known-in-loop-m-2-1).bound,
+  line_arguments c.requires (goes (goal.at.into_bound-x-requires c).At-loop-m) c.instruction-ins.result (is (goal.at.into_bound-x-requires c).After-instruction-ins) c.maker_of-m.result
+      (making (goal.at.into_bound-x-requires c).After-struct_known-in-loop-m-2-1),
+)
 
 pub returns-then-x-eq0 : goal.returns-then-x-eq0
 returns-then-x-eq0 c =

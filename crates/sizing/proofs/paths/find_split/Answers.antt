@@ -18,8 +18,7 @@ returns-then-p-v c =
 
 pub loop-i-preserved : goal.loop-i-preserved
 loop-i-preserved c =
-    let l = c.loop-i in
-    (
+    let l = c.loop-i in (
       search rules,
       below_more (λ j. c.args.v ≡ (get_or c.args.st.list j no_split).variable
           → ⊥) l.i l.invariant.1 (λ e. c.if-p-v.false (sym e)),

@@ -11,14 +11,13 @@ use borrow.Author.Rules.{rules}
 use Rattle.sizing.proofs.paths.push_parts.Goals as goal
 
 pub loop-i-init : goal.loop-i-init
-loop-i-init c =
-    (
-      search rules,
-      omega arith,
-      record { visited = refl; count = refl; taken = refl; list = refl; long = c.requires.3 },
-      rw (add-zero (c.args.st.height - 1), up_none c.args.first)
-          (sym (append-nil (take (c.args.st.height - 1) c.args.st.stack))),
-    )
+loop-i-init c = (
+  search rules,
+  omega arith,
+  record { visited = refl; count = refl; taken = refl; list = refl; long = c.requires.3 },
+  rw (add-zero (c.args.st.height - 1), up_none c.args.first)
+      (sym (append-nil (take (c.args.st.height - 1) c.args.st.stack))),
+)
 
 pub loop-i-preserved : goal.loop-i-preserved
 loop-i-preserved c =
