@@ -10,7 +10,7 @@ use lib.ListN.{length, take, drop, get_or, length-drop}
 use lib.Seq.{get_or-take, get_or-drop, length-take-le}
 use lib.Dec.{ltb, eqb}
 use borrow.Author.Tests.{ltb-true, ltb-false, eqb-true, eqb-false}
-use Rattle.rules.specs.Base.{Refusal, refusal, ◌>>=◌, within, is_zero, all, byte_at, word_at, long_at}
+use Rattle.rules.specs.Base.{Refusal, refusal, within, is_zero, all, byte_at, word_at, long_at}
 use Rattle.rules.specs.Container.{weighed, checksum, used_right, block_right, verify_block, verify_blocks, length_right, verify}
 use Rattle.rules.specs.FileRules.{Between, Whole, sum_to, Summed, Fielded, BlockRight, BlocksRight, BlocksFail, whole, sum, fields}
 use Rattle.rules.specs.FileRules.{BlocksExact}

@@ -12,7 +12,7 @@ use Rattle.rules.specs.declared.records.Header.{Header}
 use Rattle.rules.specs.declared.records.InstructionRecord.{InstructionRecord}
 use Rattle.rules.specs.declared.records.Instruction.{Instruction}
 use Rattle.rules.specs.declared.records.Instruction.TheVariants.{Branch}
-use Rattle.rules.specs.Base.{Refusal, ◌>>=◌, Check, if◌then◌else◌, is_zero, for_each}
+use Rattle.rules.specs.Base.{Refusal, Check, if◌then◌else◌, is_zero, for_each}
 use Rattle.rules.specs.Base.{byte_at, word_at}
 use Rattle.rules.specs.Records.{four_at, header_at, declaration_at, constructor_at, head_at, alternative_at, instruction_at, past_zero}
 use Rattle.rules.specs.Records.{header_right, declaration_right, constructor_right, head_right, alternative_right, operation, is_some}

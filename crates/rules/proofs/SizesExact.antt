@@ -12,7 +12,7 @@ use lib.Dec.{leb, eqb}
 use borrow.Author.Tests.{eqb-true, eqb-false, leb-false, le-leb}
 use Rattle.rules.specs.declared.records.Instruction.{Instruction}
 use Rattle.rules.specs.declared.records.Instruction.TheVariants.{Load, Build, Call, Branch, Return, Stop}
-use Rattle.rules.specs.Base.{Refusal, refusal, found, refused, ◌>>=◌, Check, passed, if◌then◌else◌, Decides}
+use Rattle.rules.specs.Base.{Refusal, refusal, found, refused, Check, passed, if◌then◌else◌, Decides}
 use Rattle.rules.specs.Lists.{All, l[], ◌l∷◌}
 use Rattle.rules.specs.Program.{Constructor, Function, Program, arity, constructor}
 use Rattle.rules.specs.Tree.{Trees, node, to_list, made, from_list}

@@ -14,7 +14,7 @@ use Rattle.rules.specs.declared.records.Instruction.TheVariants.{Load, Build, Ca
 use Rattle.rules.specs.Base.{Tried, found}
 use Rattle.rules.specs.Lists.{All, a[], ◌a∷◌}
 use Rattle.rules.specs.Program.{Constructor, Function, Program, constructor, function}
-use Rattle.rules.specs.Tree.{Trees, node, to_list, made, arguments}
+use Rattle.rules.specs.Tree.{Trees, node, to_list, made}
 use Rattle.rules.specs.Stacks.{slot, split, push}
 use Rattle.rules.specs.Walk.{Arrow}
 use Rattle.rules.specs.Types.{type_rule}

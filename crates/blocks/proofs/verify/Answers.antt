@@ -2,7 +2,6 @@
 use mathlib.Core.Path.{sym, ap, ◌∙◌}
 use Rattle.rules.specs.Answers.{told_check, length_of}
 use Rattle.blocks.proofs.VerifyLaws.{measured_told, verified_stopped}
-use borrow.Author.Rules.{rules}
 use Rattle.blocks.proofs.verify.Goals as goal
 
 pub payload_length-requires : goal.payload_length-requires

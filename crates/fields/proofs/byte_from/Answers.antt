@@ -1,7 +1,6 @@
 -- In the block it stands at its place, behind the block's end eight bytes further.
 use native.Mathlib.Omega.{arith}
 use Rattle.fields.proofs.OnwardLaws.{onward_near, onward_far}
-use borrow.Author.Rules.{rules}
 use Rattle.fields.proofs.byte_from.Goals as goal
 
 pub returns-then-j-left : goal.returns-then-j-left

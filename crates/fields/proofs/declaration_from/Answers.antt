@@ -1,7 +1,6 @@
 -- It is the definition, byte by byte.
 use native.Mathlib.Omega.{arith}
 use Rattle.fields.proofs.OnwardLaws.{reaches_less}
-use borrow.Author.Rules.{rules}
 use Rattle.fields.proofs.declaration_from.Goals as goal
 
 pub byte_from-requires : goal.byte_from-requires

@@ -1,7 +1,6 @@
 -- It is the definition, field by field.
 use native.Mathlib.Omega.{arith}
 use Rattle.fields.proofs.OnwardLaws.{reaches_less}
-use borrow.Author.Rules.{rules}
 use Rattle.fields.proofs.head_from.Goals as goal
 
 pub declaration_from-requires : goal.declaration_from-requires

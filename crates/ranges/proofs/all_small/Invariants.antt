@@ -1,13 +1,9 @@
 -- `all_small` meets its contract: at each turn what is left to test is the coefficients from `k` on.
-use mathlib.Core.Path.{◌≡◌, refl, sym, ◌∙◌}
+use mathlib.Core.Path.{◌≡◌}
 use Prim.Native.Nat.{◌-◌, ◌≤◌}
-use native.Mathlib.Omega.{arith}
 use lib.ListN.{drop}
 use lib.Dec.{leb}
-use borrow.Author.Tests.{le-leb, lt-leb}
 use Rattle.rules.specs.Base.{all}
-use Rattle.rules.proofs.AllLaws.{rest_stop, rest_go, rest_end}
-use borrow.Author.Rules.{rules}
 use Rattle.ranges.proofs.all_small.Given as goal
 
 abbrev pub invariant-loop-k : goal.invariant-loop-k

@@ -1,6 +1,5 @@
 -- `declaration_right` meets its contract: it is the definition, test by test.
 use Rattle.rules.specs.Records.{declaration_right}
-use borrow.Author.Rules.{rules}
 use Rattle.ranges.proofs.declaration_right.Goals as goal
 
 pub returns : goal.returns

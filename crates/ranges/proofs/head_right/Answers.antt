@@ -1,6 +1,5 @@
 -- `head_right` meets its contract: it is the definition, test by test.
 use Rattle.rules.specs.Records.{head_right}
-use borrow.Author.Rules.{rules}
 use Rattle.ranges.proofs.head_right.Goals as goal
 
 pub returns : goal.returns

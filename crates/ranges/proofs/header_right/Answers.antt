@@ -1,6 +1,5 @@
 -- `header_right` meets its contract: it is the definition, test by test.
 use Rattle.rules.specs.Records.{header_right}
-use borrow.Author.Rules.{rules}
 use Rattle.ranges.proofs.header_right.Goals as goal
 
 pub returns : goal.returns

@@ -2,7 +2,6 @@
 use mathlib.Core.Path.{sym, ap, ◌∙◌}
 use Rattle.rules.specs.Records.{is_some}
 use Rattle.ranges.specs.Fetched.{fetched}
-use borrow.Author.Rules.{rules}
 use Rattle.ranges.proofs.instruction_right.Goals as goal
 
 pub returns-in-Is : goal.returns-in-Is

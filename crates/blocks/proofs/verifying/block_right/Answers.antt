@@ -3,11 +3,10 @@ use mathlib.Core.Path.{◌≡◌, refl, sym, ◌∙◌}
 use mathlib.Core.Bool.{true}
 use lib.Dec.{eqb}
 use native.Mathlib.Omega.{arith}
-use borrow.Author.Tests.{eq-eqb, ne_eqb, not-true, not-false}
+use borrow.Author.Tests.{eq-eqb, ne_eqb}
 use Rattle.rules.specs.Base.{word_at}
 use Rattle.rules.proofs.ContainerLaws.{used_small}
 use Rattle.blocks.proofs.BlockLaws.{fields_tested}
-use borrow.Author.Rules.{rules}
 use Rattle.blocks.proofs.verifying.block_right.Goals.{Else-number-k}
 use Rattle.blocks.proofs.verifying.block_right.Goals as goal
 

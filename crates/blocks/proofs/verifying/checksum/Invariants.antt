@@ -1,11 +1,8 @@
 -- `blocks::verifying::checksum` meets its contract: the loop's sum is that of the bytes passed. Assumes nothing.
-use mathlib.Core.Path.{◌≡◌, refl, ap, sym, ◌∙◌}
-use Prim.Native.Nat.{◌≤◌, ◌*◌, ◌-◌, ◌+◌, ℕ}
-use native.Mathlib.Omega.{arith}
-use lib.ListN.{take, get_or}
-use Rattle.rules.specs.Container.{weighed, checksum}
-use Rattle.rules.proofs.ContainerLaws.{check_next}
-use Rattle.rules.proofs.SumLaws.{term_bound}
+use mathlib.Core.Path.{◌≡◌}
+use Prim.Native.Nat.{◌≤◌, ◌*◌, ◌-◌}
+use lib.ListN.{take}
+use Rattle.rules.specs.Container.{weighed}
 use Rattle.blocks.proofs.verifying.checksum.Given as goal
 
 abbrev pub invariant-loop-i : goal.invariant-loop-i

@@ -1,7 +1,6 @@
 -- `blocks::verifying::payload_length` meets its contract: verified blocks are whole, and the last one's used count gives the length.
 -- Assumes nothing.
 use native.Mathlib.Omega.{arith}
-use borrow.Author.Rules.{rules}
 use Rattle.rules.proofs.ContainerLaws.{verified_whole}
 use Rattle.blocks.proofs.VerifyLaws.{measured_last}
 use Rattle.blocks.proofs.verifying.payload_length.Goals as goal

@@ -6,7 +6,6 @@ use borrow.Author.Tests.{eq-eqb, ne_eqb}
 use Rattle.rules.specs.Base.{long_at}
 use Rattle.rules.specs.Container.{checksum}
 use Rattle.blocks.proofs.BlockLaws.{block_tested}
-use borrow.Author.Rules.{rules}
 use Rattle.blocks.proofs.verifying.verify_block.Goals.{Else-long_at-checksum}
 use Rattle.blocks.proofs.verifying.verify_block.Goals as goal
 

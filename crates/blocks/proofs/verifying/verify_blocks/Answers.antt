@@ -1,7 +1,7 @@
 -- `blocks::verifying::verify_blocks` meets its contract: what is left to verify decides. Assumes nothing.
 use mathlib.Core.Path.{◌≡◌, sym, ◌∙◌}
 use mathlib.Core.Bool.{and-false}
-use Prim.Native.Nat.{◌≤◌, ◌-◌, ◌*◌, ◌+◌, ◌/◌}
+use Prim.Native.Nat.{◌-◌, ◌*◌, ◌+◌, ◌/◌}
 use native.Mathlib.Nat.{sub-zero}
 use native.Mathlib.Omega.{arith}
 use lib.ListN.{length, drop, length-take, length-drop}
@@ -11,7 +11,6 @@ use Rattle.rules.specs.Base.{◌>>=◌}
 use Rattle.rules.specs.Container.{verify, verify_blocks, length_right}
 use Rattle.rules.proofs.ContainerLaws.{verify_refused, verify_begun}
 use Rattle.blocks.proofs.BlockLaws.{blocks_found}
-use borrow.Author.Rules.{rules}
 use Rattle.blocks.proofs.verifying.verify_blocks.Goals.{After-verify_block-checked}
 use Rattle.blocks.proofs.verifying.verify_blocks.Goals as goal
 

@@ -1,12 +1,8 @@
 -- `blocks::verifying::zero_between` meets its contract: what is left to look at decides. Assumes nothing.
-use mathlib.Core.Path.{◌≡◌, refl, ◌∙◌}
+use mathlib.Core.Path.{◌≡◌}
 use Prim.Native.Nat.{◌≤◌, ◌-◌}
-use borrow.Author.Tests.{eq-eqb, ne_eqb}
-use lib.Seq.{slice_empty}
-use native.Mathlib.Omega.{arith}
 use lib.ListN.{take, drop}
 use Rattle.rules.specs.Base.{all, is_zero}
-use Rattle.rules.proofs.ContainerLaws.{part_cons}
 use Rattle.blocks.proofs.verifying.zero_between.Given as goal
 
 abbrev pub invariant-loop-i : goal.invariant-loop-i
