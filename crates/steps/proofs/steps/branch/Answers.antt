@@ -6,7 +6,6 @@ use Rattle.store.specs.Cells.{cells_to}
 use Rattle.store.proofs.CellLaws.{room_less, cells_inside}
 use Rattle.steps.specs.Steps.{branch_passes, branch_constant, branch_full, branch_takes}
 use Rattle.fetch.proofs.IndexLaws.{constructor_small}
-use borrow.Author.Rules.{rules}
 use Rattle.steps.proofs.steps.branch.Goals as goal
 
 pub constructor_at-requires : goal.constructor_at-requires
@@ -19,12 +18,12 @@ constructor_at-requires c =
 pub overflow_sub-b : goal.overflow_sub-b
 overflow_sub-b c =
     let is = rw c.wide16-k.ensures.0 at c.constructor_at.ensures.0 in
-    (c.requires.parsed.1 (λ e. c.if-constructor_at-c.true (is ∙ e))).0
+    (c.requires.b_nonzero (λ e. c.if-constructor_at-c.true (is ∙ e))).0
 
 pub place_behind-requires : goal.place_behind-requires
 place_behind-requires c =
     let is = rw c.wide16-k.ensures.0 at c.constructor_at.ensures.0 in
-    let other = c.requires.parsed.1 (λ e. c.if-constructor_at-c.true (is ∙ e)) in
+    let other = c.requires.b_nonzero (λ e. c.if-constructor_at-c.true (is ∙ e)) in
     (other.2, other.3, omega (arith, other.1))
 
 pub returns-then-constructor_at-c : goal.returns-then-constructor_at-c
@@ -43,13 +42,13 @@ pub constructor_arity-n-requires : goal.constructor_arity-n-requires
 constructor_arity-n-requires c =
     let is = rw c.wide16-k.ensures.0 at c.constructor_at.ensures.0 in
     let one = rw c.wide16-k.ensures.0 at c.is_constant.ensures in
-    c.requires.parsed.0 (sym is ∙ c.if-constructor_at-c.false) (sym one ∙ c.if-is_constant.false)
+    c.requires.parsed (sym is ∙ c.if-constructor_at-c.false) (sym one ∙ c.if-is_constant.false)
 
 pub overflow_add-last : goal.overflow_add-last
 overflow_add-last c =
     let is = rw c.wide16-k.ensures.0 at c.constructor_at.ensures.0 in
     let one = rw c.wide16-k.ensures.0 at c.is_constant.ensures in
-    let known = c.requires.parsed.0 (sym is ∙ c.if-constructor_at-c.false) (sym one ∙ c.if-is_constant.false) in
+    let known = c.requires.parsed (sym is ∙ c.if-constructor_at-c.false) (sym one ∙ c.if-is_constant.false) in
     omega (arith, constructor_small known.0 c.args.c known.1)
 
 pub returns-then-last-n : goal.returns-then-last-n
@@ -66,7 +65,7 @@ spread-requires c =
     let a = c.args in
     let top = c.wide16-k in
     let lent = c.requires.lent.0 in
-    let known = c.requires.parsed.0 (sym is ∙ c.if-constructor_at-c.false) (sym one ∙ c.if-is_constant.false) in
+    let known = c.requires.parsed (sym is ∙ c.if-constructor_at-c.false) (sym one ∙ c.if-is_constant.false) in
     let inside = cells_inside top.result a.m.cells (omega (arith, top.ensures.0, c.requires.lent.3)) in (
       room_less a.cells.now a.m.cells (cells_to top.result) lent.cell_room inside,
       top.ensures.1,

@@ -5,7 +5,6 @@ use native.Mathlib.Omega.{arith}
 use Rattle.store.proofs.CellLaws.{room_less}
 use Rattle.steps.specs.Steps.{build_full, build_constant, build_short, build_goes}
 use Rattle.fetch.proofs.IndexLaws.{constructor_small}
-use borrow.Author.Rules.{rules}
 use Rattle.steps.proofs.steps.build.Goals as goal
 
 pub constructor_arity-n-requires : goal.constructor_arity-n-requires
@@ -44,7 +43,7 @@ put_cell-requires c =
 
 pub returns : goal.returns
 returns c =
-    let arity = c.constructor-arity.ensures in
+    let arity = c.constructor_arity-n.ensures in
     let put = c.put_cell.ensures in
     rw (c.went-t.ensures, put.0, arity)
-    (build_goes (omega arith) (λ e. c.if2.false (arity ∙ e)) (omega arith) (rw arity at put.1))
+    (build_goes (omega arith) (λ e. c.if-n-eq0.false (arity ∙ e)) (omega arith) (rw arity at put.1))

@@ -1,7 +1,6 @@
 -- Slot a is copied on top, or the stack is full.
 use native.Mathlib.Omega.{arith}
 use Rattle.steps.specs.Steps.{load_full, load_goes}
-use borrow.Author.Rules.{rules}
 use Rattle.steps.proofs.steps.load.Goals as goal
 
 pub returns-then-top-m : goal.returns-then-top-m

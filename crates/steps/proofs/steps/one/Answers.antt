@@ -1,4 +1,4 @@
-use borrow.Author.Rules.{rules}
+use native.Mathlib.Omega.{arith}
 use Rattle.steps.proofs.OneLaws.{fetch_there, load_ready, load_stepped, build_ready, build_stepped, branch_ready}
 use Rattle.steps.proofs.OneLaws.{branch_ready_same, branch_ready_other, branch_stepped, call_stepped, return_stepped, stop_stepped}
 use Rattle.steps.proofs.steps.one.Goals as goal
@@ -24,15 +24,14 @@ build-requires c =
 
 pub branch-file-requires : goal.branch-file-requires
 branch-file-requires c =
-    let word = c.fetch.ensures in
-    let key = c.match.keys4 in
-    let x = branch_ready _ _ _ _ _ c.requires.0 c.requires.1 word.0 key in (
-      (c.requires.0.lent, x.0, c.requires.0.standing.laid.places, x.1),
-      (
-        branch_ready_same _ _ _ _ _ c.requires.0 c.requires.1 word.0 key,
-        branch_ready_other _ _ _ _ _ c.requires.0 c.requires.1 word.0 key,
-      ),
-    )
+    let word = c.fetch-f.ensures in
+    let key = c.in-4.is in
+    let x = branch_ready _ _ _ _ _ c.requires.0 c.requires.1 word.0 key in
+    record {
+      lent = (c.requires.0.lent, x.0, c.requires.0.standing.laid.places, x.1);
+      parsed = branch_ready_same _ _ _ _ _ c.requires.0 c.requires.1 word.0 key;
+      b_nonzero = branch_ready_other _ _ _ _ _ c.requires.0 c.requires.1 word.0 key;
+    }
 
 pub returns-in-1 : goal.returns-in-1
 returns-in-1 c =
@@ -53,8 +52,8 @@ returns-in-3 c =
 
 pub returns-in-4 : goal.returns-in-4
 returns-in-4 c =
-    let word = c.fetch.ensures in
-    branch_stepped _ _ _ _ _ c.requires.0 c.requires.1 word.0 c.match.keys4 _ word.1
+    let word = c.fetch-f.ensures in
+    branch_stepped _ _ _ _ _ c.requires.0 c.requires.1 word.0 c.in-4.is _ word.1
     word.2 c.branch-file.ensures
 
 pub returns-in-5 : goal.returns-in-5
@@ -65,7 +64,5 @@ returns-in-5 c =
 pub returns-in_default : goal.returns-in_default
 returns-in_default c =
     let word = c.fetch-f.ensures in
-    let rest = c.in_default.rest in
-    rw c.paused-in_default.ensures (stop_stepped _ _ _ _ _ c.requires.0 c.requires.1 word.0 rest.0.0.0.0.1 rest.0.0.0.1
-    rest.0.0.1
-    rest.0.1 rest.1)
+    rw c.paused-in_default.ensures (stop_stepped _ _ _ _ _ c.requires.0 c.requires.1 word.0
+    (λ e. omega arith) (λ e. omega arith) (λ e. omega arith) (λ e. omega arith) (λ e. omega arith))

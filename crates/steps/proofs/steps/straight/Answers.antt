@@ -2,8 +2,7 @@
 use mathlib.Core.Path.{◌∙◌}
 use native.Mathlib.Omega.{arith}
 use Rattle.store.proofs.CellLaws.{cells_kept_length}
-use Rattle.steps.proofs.LoopLaws.{Went, went_none, went_more, ready_again, pauses_rest, pauses_spent}
-use borrow.Author.Rules.{rules}
+use Rattle.steps.proofs.LoopLaws.{went_none, went_more, ready_again, pauses_rest, pauses_spent}
 use Rattle.steps.proofs.steps.straight.Goals as goal
 
 pub loop-r-init : goal.loop-r-init
@@ -16,11 +15,11 @@ one-t-requires c =
 
 pub shape_of-cells-then-t-ne-GOES : goal.shape_of-cells-then-t-ne-GOES
 shape_of-cells-then-t-ne-GOES c =
-    c.one-t.auto.1.0 ∙ cells_kept_length _ _ _ c.loop-r.invariant.spared.of_cells
+    c.one-t.auto.cells ∙ cells_kept_length _ _ _ c.loop-r.invariant.spared.of_cells
 
 pub shape_of-stack-then-t-ne-GOES : goal.shape_of-stack-then-t-ne-GOES
 shape_of-stack-then-t-ne-GOES c =
-    c.one-t.auto.1.1.0 ∙ c.loop-r.invariant.spared.of_stack.len
+    c.one-t.auto.stack ∙ c.loop-r.invariant.spared.of_stack.len
 
 pub returns-then-t-ne-GOES : goal.returns-then-t-ne-GOES
 returns-then-t-ne-GOES c =
