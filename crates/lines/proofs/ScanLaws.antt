@@ -7,7 +7,7 @@ use Prim.Native.Nat.{ℕ, zero, suc, ◌+◌, ◌*◌, ◌/◌, ◌%◌, ◌-◌
 use native.Mathlib.Omega.{arith}
 use lib.ListN.{length, take, drop, get_or, length-take, length-drop, drop_of_length-le}
 use lib.Seq.{get_or-take, drop-drop}
-use Rattle.rules.specs.Base.{refusal, found, refused, passed, ◌>>=◌, only}
+use Rattle.rules.specs.Base.{refusal, found, refused, passed, only}
 use Rattle.rules.specs.Lines.{letters_right, text_lines, code, codes}
 use Rattle.rules.proofs.ListLaws.{false_true}
 use Rattle.rules.proofs.TriedLaws.{only_found}

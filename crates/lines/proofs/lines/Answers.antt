@@ -1,14 +1,12 @@
 -- `lines::lines` meets its contract: a wrong table, the first wrong line, then the room. Assumes nothing.
 use mathlib.Core.Path.{sym, ap, ◌∙◌}
 use lib.ListN.{length}
-use borrow.Author.Tests.{not-true, not-false}
 use Rattle.rules.specs.Answers.{told_check}
 use Rattle.rules.specs.Lines.{entries, text_lines, codes}
 use Rattle.rules.specs.Memory.{copied_into}
 use Rattle.rules.proofs.TriedLaws.{only_refused}
 use Rattle.lines.proofs.ScanLaws.{all_scanned}
 use Rattle.lines.proofs.WrittenLaws.{lines_alike, lines_table, lines_refused, lines_found}
-use borrow.Author.Rules.{rules}
 use Rattle.lines.proofs.lines.Goals as goal
 
 pub returns-then-cons-nil : goal.returns-then-cons-nil

@@ -7,7 +7,6 @@ use Rattle.rules.specs.Container.{block_count, packed}
 use Rattle.rules.specs.Memory.{copied_into}
 use Rattle.rules.proofs.ContainerLaws.{packed_length}
 use Rattle.packing.proofs.PackLaws.{pack_bad, pack_short, pack_fits}
-use borrow.Author.Rules.{rules}
 use Rattle.packing.proofs.pack.Goals as goal
 
 pub returns-then-n-eq0 : goal.returns-then-n-eq0

@@ -3,7 +3,6 @@ use lib.ListN.{length}
 use Rattle.rules.specs.Memory.{copied_into}
 use Rattle.blocks.proofs.VerifyLaws.{verified_measured, verified_refused}
 use Rattle.packing.proofs.PackLaws.{unpack_refused}
-use borrow.Author.Rules.{rules}
 use Rattle.packing.proofs.unpack.Goals as goal
 
 pub unpack_verified-requires : goal.unpack_verified-requires

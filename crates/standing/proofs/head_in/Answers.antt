@@ -2,12 +2,10 @@
 use mathlib.Core.Path.{sym, ◌∙◌}
 use Prim.Native.Nat.{◌+◌}
 use native.Mathlib.Omega.{arith}
-use borrow.Author.Tests.{not-true, not-false}
 use Rattle.rules.proofs.SameLaws.{head_same}
 use Rattle.fields.proofs.SpotLaws.{Spot, far_reaches, far_same}
 use Rattle.standing.specs.Found.{standing, Inside}
 use Rattle.standing.proofs.StandingLaws.{seen_whole, seen_not, found_spot}
-use borrow.Author.Rules.{rules}
 use Rattle.standing.proofs.head_in.Goals.{Else-not-is_there, After-left_in_block}
 use Rattle.standing.proofs.head_in.Goals as goal
 

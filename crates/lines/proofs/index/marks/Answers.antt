@@ -3,8 +3,7 @@ use Prim.Native.Nat.{ℕ, ◌+◌, ◌-◌, ◌*◌, ◌/◌, ◌≤◌}
 use mathlib.Core.Path.{◌≡◌, ap, ◌∙◌}
 use native.Mathlib.Omega.{arith}
 use lib.ListN.{length, drop, get_or}
-use Rattle.rules.specs.Lines.{entries}
-use Rattle.lines.specs.Marks.{number, Marked}
+use Rattle.lines.specs.Marks.{number}
 use Rattle.lines.proofs.TableLaws.{entries_end, right_even, entry_letters, entry_there}
 use Rattle.lines.proofs.MarkLaws.{marked_none, marked_entry}
 use Rattle.lines.proofs.index.marks.Goals as goal

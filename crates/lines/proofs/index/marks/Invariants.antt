@@ -1,12 +1,8 @@
 -- `lines::index::marks` meets its contract: the marks are those of the entries from entry k on. Assumes nothing.
-use Prim.Native.Nat.{ℕ, ◌+◌, ◌-◌, ◌*◌, ◌/◌, ◌≤◌}
-use mathlib.Core.Path.{◌≡◌, ap, ◌∙◌}
-use native.Mathlib.Omega.{arith}
-use lib.ListN.{length, drop, get_or}
+use Prim.Native.Nat.{◌*◌, ◌≤◌}
+use lib.ListN.{length, drop}
 use Rattle.rules.specs.Lines.{entries}
-use Rattle.lines.specs.Marks.{number, Marked}
-use Rattle.lines.proofs.TableLaws.{entries_end, right_even, entry_letters, entry_there}
-use Rattle.lines.proofs.MarkLaws.{marked_none, marked_entry}
+use Rattle.lines.specs.Marks.{Marked}
 use Rattle.lines.proofs.index.marks.Given as goal
 
 abbrev pub invariant-loop-k : goal.invariant-loop-k

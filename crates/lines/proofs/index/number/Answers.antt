@@ -3,7 +3,6 @@ use mathlib.Core.Path.{sym}
 use native.Mathlib.Omega.{arith}
 use lib.ListN.{drop}
 use Rattle.lines.proofs.LetterLaws.{number_less, number_at, first_high, second_high, third_high}
-use borrow.Author.Rules.{rules}
 use Rattle.lines.proofs.index.number.Goals as goal
 
 pub overflow_sub-first : goal.overflow_sub-first

@@ -1,6 +1,5 @@
 -- `lines::table::letters` meets its contract: the three bytes are those of the definition. Assumes nothing.
 use Rattle.lines.proofs.LetterLaws.{letters_at}
-use borrow.Author.Rules.{rules}
 use Rattle.lines.proofs.table.letters.Goals as goal
 
 pub returns : goal.returns

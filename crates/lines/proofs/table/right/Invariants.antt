@@ -1,12 +1,9 @@
 -- `lines::table::right` meets its contract: the entries before the place are right, so the others decide. Assumes nothing.
-use Prim.Native.Nat.{◌+◌, ◌-◌, ◌%◌, ◌≤◌}
-use mathlib.Core.Path.{◌≡◌, sym, ◌∙◌}
-use native.Mathlib.Omega.{arith}
+use Prim.Native.Nat.{◌-◌, ◌%◌, ◌≤◌}
+use mathlib.Core.Path.{◌≡◌}
 use lib.ListN.{length, drop}
-use borrow.Author.Tests.{not-true, not-false}
 use Rattle.rules.specs.Base.{all}
 use Rattle.rules.specs.Lines.{letters_right, entries, table_right}
-use Rattle.lines.proofs.TableLaws.{entries_end, table_uneven, table_even, letters_wrong, letters_next}
 use Rattle.lines.proofs.table.right.Given as goal
 
 abbrev pub invariant-loop-at : goal.invariant-loop-at

@@ -3,7 +3,6 @@ use native.Mathlib.Omega.{arith}
 use lib.ListN.{length}
 use Rattle.rules.specs.Memory.{copied_into}
 use Rattle.lines.proofs.WrittenLaws.{list_needed, list_short, list_fits}
-use borrow.Author.Rules.{rules}
 use Rattle.lines.proofs.text.deliver.Goals as goal
 
 pub overflow_mul-needed : goal.overflow_mul-needed

@@ -3,9 +3,7 @@ use mathlib.Core.Path.{sym, ap, ◌∙◌}
 use Prim.Native.Nat.{ℕ}
 use native.Mathlib.Omega.{arith}
 use lib.ListN.{get_or}
-use borrow.Author.Tests.{not-true, not-false}
 use Rattle.lines.proofs.ScanLaws.{mark_short, mark_letters, mark_end, mark_there}
-use borrow.Author.Rules.{rules}
 use Rattle.lines.proofs.text.mark.Goals as goal
 
 pub returns-then-text-at-lt4 : goal.returns-then-text-at-lt4

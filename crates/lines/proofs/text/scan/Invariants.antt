@@ -1,9 +1,7 @@
 -- `lines::text::scan` meets its contract: all lines before the place have codes. Assumes nothing.
 use Prim.Native.Nat.{◌-◌}
-use mathlib.Core.Path.{refl}
-use native.Mathlib.Omega.{arith}
 use lib.ListN.{length}
-use Rattle.lines.proofs.ScanLaws.{Passed, passed_wrong, passed_next, passed_end}
+use Rattle.lines.proofs.ScanLaws.{Passed}
 use Rattle.lines.proofs.text.scan.Given as goal
 
 abbrev pub invariant-loop-at : goal.invariant-loop-at

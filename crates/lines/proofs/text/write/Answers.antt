@@ -3,7 +3,7 @@ use Prim.Native.Nat.{ℕ, ◌-◌, ◌*◌}
 use mathlib.Core.Path.{ap, ◌∙◌}
 use native.Mathlib.Omega.{arith}
 use lib.ListN.{get_or, length-set}
-use Rattle.lines.proofs.WrittenLaws.{Writing, writing_start, writing_next, writing_end}
+use Rattle.lines.proofs.WrittenLaws.{writing_start, writing_next, writing_end}
 use Rattle.lines.proofs.text.write.Goals as goal
 
 pub loop-i-init : goal.loop-i-init

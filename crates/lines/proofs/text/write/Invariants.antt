@@ -1,9 +1,6 @@
 -- `lines::text::write` meets its contract: so many lines are written, whatever their codes are. Assumes nothing.
-use Prim.Native.Nat.{ℕ, ◌-◌, ◌*◌}
-use mathlib.Core.Path.{ap, ◌∙◌}
-use native.Mathlib.Omega.{arith}
-use lib.ListN.{get_or, length-set}
-use Rattle.lines.proofs.WrittenLaws.{Writing, writing_start, writing_next, writing_end}
+use Prim.Native.Nat.{◌-◌}
+use Rattle.lines.proofs.WrittenLaws.{Writing}
 use Rattle.lines.proofs.text.write.Given as goal
 
 abbrev pub invariant-loop-i : goal.invariant-loop-i

@@ -1,10 +1,8 @@
 -- `packing::unpacking::copy_payload` meets its contract: the payload's bytes are pasted one by one. Assumes nothing.
-use Prim.Native.Nat.{◌-◌}
 use mathlib.Core.Path.{refl}
 use native.Mathlib.Nat.{zero-add}
 use native.Mathlib.Omega.{arith}
-use Rattle.rules.specs.Container.{payload}
-use Rattle.rules.proofs.WriteLaws.{Pasted, pasted_start, pasted_next, pasted_end}
+use Rattle.rules.proofs.WriteLaws.{pasted_start, pasted_next, pasted_end}
 use Rattle.packing.proofs.unpacking.copy_payload.Goals as goal
 
 pub loop-k-init : goal.loop-k-init

@@ -1,10 +1,7 @@
 -- `packing::unpacking::copy_payload` meets its contract: the payload's bytes are pasted one by one. Assumes nothing.
 use Prim.Native.Nat.{◌-◌}
-use mathlib.Core.Path.{refl}
-use native.Mathlib.Nat.{zero-add}
-use native.Mathlib.Omega.{arith}
 use Rattle.rules.specs.Container.{payload}
-use Rattle.rules.proofs.WriteLaws.{Pasted, pasted_start, pasted_next, pasted_end}
+use Rattle.rules.proofs.WriteLaws.{Pasted}
 use Rattle.packing.proofs.unpacking.copy_payload.Given as goal
 
 abbrev pub invariant-loop-k : goal.invariant-loop-k

@@ -3,7 +3,6 @@ use lib.ListN.{length}
 use Rattle.rules.specs.Memory.{copied_into}
 use Rattle.blocks.proofs.VerifyLaws.{verified_passed}
 use Rattle.packing.proofs.PackLaws.{unpack_short, unpack_fits}
-use borrow.Author.Rules.{rules}
 use Rattle.packing.proofs.unpacking.unpack_verified.Goals as goal
 
 pub returns-then-out-n : goal.returns-then-out-n

@@ -1,9 +1,7 @@
 -- `packing::writing::clear` meets its contract: zeros are pasted one by one. Assumes nothing.
 use Prim.Native.Nat.{◌≤◌, ◌-◌}
-use mathlib.Core.Path.{sym}
-use native.Mathlib.Omega.{arith}
-use lib.ListN.{replicate, length-replicate, get_or-replicate}
-use Rattle.rules.proofs.WriteLaws.{Pasted, pasted_start, pasted_next, pasted_end}
+use lib.ListN.{replicate}
+use Rattle.rules.proofs.WriteLaws.{Pasted}
 use Rattle.packing.proofs.writing.clear.Given as goal
 
 abbrev pub invariant-loop-i : goal.invariant-loop-i

@@ -1,11 +1,10 @@
 -- `packing::writing::put` meets its contract: the bytes passed are pasted and summed. Assumes nothing.
-use Prim.Native.Nat.{◌≤◌, ◌-◌, ◌+◌, ◌*◌}
+use Prim.Native.Nat.{◌≤◌, ◌+◌, ◌*◌}
 use mathlib.Core.Path.{◌≡◌, refl}
 use native.Mathlib.Omega.{arith}
-use lib.ListN.{length, take, get_or}
+use lib.ListN.{length, get_or}
 use lib.Seq.{take-length}
-use Rattle.rules.specs.Container.{weighed}
-use Rattle.rules.proofs.WriteLaws.{Pasted, pasted_start, pasted_next, pasted_end}
+use Rattle.rules.proofs.WriteLaws.{pasted_start, pasted_next, pasted_end}
 use Rattle.rules.proofs.SumLaws.{term_bound, sum_start, sum_next}
 use Rattle.packing.proofs.writing.put.Goals.{After-shared_slice_known-1}
 use Rattle.packing.proofs.writing.put.Goals as goal

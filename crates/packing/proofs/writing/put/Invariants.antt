@@ -1,12 +1,9 @@
 -- `packing::writing::put` meets its contract: the bytes passed are pasted and summed. Assumes nothing.
 use Prim.Native.Nat.{◌≤◌, ◌-◌, ◌+◌, ◌*◌}
-use mathlib.Core.Path.{◌≡◌, refl}
-use native.Mathlib.Omega.{arith}
-use lib.ListN.{length, take, get_or}
-use lib.Seq.{take-length}
+use mathlib.Core.Path.{◌≡◌}
+use lib.ListN.{length, take}
 use Rattle.rules.specs.Container.{weighed}
-use Rattle.rules.proofs.WriteLaws.{Pasted, pasted_start, pasted_next, pasted_end}
-use Rattle.rules.proofs.SumLaws.{term_bound, sum_start, sum_next}
+use Rattle.rules.proofs.WriteLaws.{Pasted}
 use Rattle.packing.proofs.writing.put.Given as goal
 
 abbrev pub invariant-loop-i : goal.invariant-loop-i

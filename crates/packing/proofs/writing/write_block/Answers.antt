@@ -1,6 +1,5 @@
 -- `packing::writing::write_block` meets its contract: its parts stand one behind the other, and the sum is their checksum. Assumes nothing.
 use Rattle.packing.proofs.PackLaws.{block_written}
-use borrow.Author.Rules.{rules}
 use Rattle.packing.proofs.writing.write_block.Goals as goal
 
 pub returns : goal.returns

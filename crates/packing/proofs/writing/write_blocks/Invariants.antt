@@ -1,11 +1,9 @@
 -- `packing::writing::write_blocks` meets its contract: the blocks so far stand at the output's front. Assumes nothing.
-use Prim.Native.Nat.{◌≤◌, ◌-◌, ◌+◌, ◌*◌}
-use mathlib.Core.Path.{◌≡◌, refl, ◌∙◌}
-use native.Mathlib.Omega.{arith}
-use lib.ListN.{length, length-take, length-drop}
+use Prim.Native.Nat.{◌≤◌, ◌-◌}
+use mathlib.Core.Path.{◌≡◌}
+use lib.ListN.{length}
 use Rattle.rules.specs.Container.{blocks_of}
 use Rattle.rules.specs.Memory.{front_written}
-use Rattle.packing.proofs.PackLaws.{blocks_next}
 use Rattle.packing.proofs.writing.write_blocks.Given as goal
 
 abbrev pub invariant-loop-k : goal.invariant-loop-k

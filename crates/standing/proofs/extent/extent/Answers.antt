@@ -1,7 +1,6 @@
 -- Blocks of which one is the last, or none.
 use native.Mathlib.Omega.{arith}
 use Rattle.standing.proofs.StandingLaws.{extent_none, extent_some}
-use borrow.Author.Rules.{rules}
 use Rattle.standing.proofs.extent.extent.Goals as goal
 
 pub returns-then-file-lt512 : goal.returns-then-file-lt512

@@ -7,7 +7,6 @@ use borrow.Author.Tests.{leb-true, lt-leb}
 use Rattle.rules.proofs.ListLaws.{false_true}
 use Rattle.standing.specs.Found.{extent}
 use Rattle.standing.proofs.StandingLaws.{leb_moved, inside_whole}
-use borrow.Author.Rules.{rules}
 use Rattle.standing.proofs.extent.is_there.Goals as goal
 
 pub returns-then-n-size : goal.returns-then-n-size

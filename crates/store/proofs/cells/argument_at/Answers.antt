@@ -2,7 +2,6 @@
 use native.Mathlib.Omega.{arith}
 use borrow.Author.Tests.{ltb-false}
 use Rattle.store.specs.Cells.{argument_in, cell_of, cells_to, CellRoom}
-use borrow.Author.Rules.{rules}
 use Rattle.store.proofs.cells.argument_at.Goals as goal
 
 pub overflow_sub-k : goal.overflow_sub-k

@@ -1,7 +1,6 @@
 -- Four zeros, one after the other.
 use native.Mathlib.Omega.{arith}
 use Rattle.store.proofs.CopyLaws.{cleared_one, cleared_two, cleared_three, cleared_four}
-use borrow.Author.Rules.{rules}
 use Rattle.store.proofs.cells.clear_four.Goals as goal
 
 pub bounds-out-at-2 : goal.bounds-out-at-2

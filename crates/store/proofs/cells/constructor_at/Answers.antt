@@ -4,7 +4,6 @@ use native.Mathlib.Omega.{arith}
 use borrow.Author.Tests.{le-ltb, lt-ltb}
 use Rattle.store.specs.Cells.{constructor_in, label_in, cell_of, cells_to, CellRoom}
 use Rattle.store.proofs.CellLaws.{constant_label}
-use borrow.Author.Rules.{rules}
 use Rattle.store.proofs.cells.constructor_at.Goals as goal
 
 pub returns-then-k-lt-CONSTANTS : goal.returns-then-k-lt-CONSTANTS

@@ -6,7 +6,6 @@ use lib.ListN.{length-set}
 use Rattle.store.specs.Cells.{CellRoom}
 use Rattle.store.proofs.CopyLaws.{placed}
 use Rattle.store.proofs.RefLaws.{length_refs}
-use borrow.Author.Rules.{rules}
 use Rattle.store.proofs.cells.put_cell.Goals as goal
 
 pub bounds-cells-base : goal.bounds-cells-base

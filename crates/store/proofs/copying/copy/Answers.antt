@@ -2,7 +2,6 @@
 use mathlib.Core.Path.{◌≡◌}
 use native.Mathlib.Omega.{arith}
 use Rattle.store.proofs.CopyLaws.{copied_none, copied_one, copied_two, copied_three, copied_four}
-use borrow.Author.Rules.{rules}
 use Rattle.store.proofs.copying.copy.Goals as goal
 
 pub returns-then-n-eq0 : goal.returns-then-n-eq0

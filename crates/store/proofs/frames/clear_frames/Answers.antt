@@ -1,9 +1,6 @@
 -- Each turn makes one frame more a zero.
-use Rattle.std.proofs.Common.{◌≡◌, ap, ◌∙◌, arith}
-use lib.ListN.{set}
-use Rattle.store.specs.declared.frames.Frame.{Frame}
-use Rattle.store.specs.Frames.{no_frame}
-use Rattle.store.proofs.LimitLaws.{one_zero, zero_length, zero_all}
+use Rattle.std.proofs.Common.{◌≡◌, ◌∙◌, arith}
+use Rattle.store.proofs.LimitLaws.{one_zero, zero_all}
 use Rattle.store.proofs.frames.clear_frames.Goals as goal
 
 pub loop-i-preserved : goal.loop-i-preserved

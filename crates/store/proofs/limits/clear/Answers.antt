@@ -1,8 +1,7 @@
 -- By the invariant that the first j entries are zero and the others kept.
-use Prim.Native.Nat.{◌≤◌, ◌-◌}
 use mathlib.Core.Path.{◌≡◌}
 use native.Mathlib.Omega.{arith}
-use Rattle.store.proofs.LimitLaws.{Cleared, cleared_none, cleared_more, wiped}
+use Rattle.store.proofs.LimitLaws.{cleared_none, cleared_more, wiped}
 use borrow.Author.Rules.{rules}
 use Rattle.store.proofs.limits.clear.Goals as goal
 

@@ -1,9 +1,6 @@
 -- By the invariant that the first j entries are zero and the others kept.
 use Prim.Native.Nat.{◌≤◌, ◌-◌}
-use mathlib.Core.Path.{◌≡◌}
-use native.Mathlib.Omega.{arith}
-use Rattle.store.proofs.LimitLaws.{Cleared, cleared_none, cleared_more, wiped}
-use borrow.Author.Rules.{rules}
+use Rattle.store.proofs.LimitLaws.{Cleared}
 use Rattle.store.proofs.limits.clear.Given as goal
 
 abbrev pub invariant-loop-j : goal.invariant-loop-j

@@ -1,7 +1,6 @@
 -- The usable entries of each table are cleared.
 use native.Mathlib.Omega.{arith}
 use Rattle.store.specs.Cells.{CellRoom}
-use borrow.Author.Rules.{rules}
 use Rattle.store.proofs.limits.wipe.Goals as goal
 
 pub clear-requires : goal.clear-requires
