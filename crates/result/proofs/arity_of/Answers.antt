@@ -3,7 +3,6 @@ use mathlib.Core.Path.{sym, ap, ◌∙◌}
 use Rattle.store.proofs.CellLaws.{constant_arity, cell_arity}
 use Rattle.fetch.specs.Indexed.{constructor_arity}
 use Rattle.result.proofs.ValueLaws.{cell_known}
-use borrow.Author.Rules.{rules}
 use Rattle.result.proofs.arity_of.Goals as goal
 
 pub returns-then-is_constant : goal.returns-then-is_constant
