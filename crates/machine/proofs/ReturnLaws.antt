@@ -8,7 +8,7 @@ use lib.ListN.{length, get_or, set}
 use Rattle.rules.specs.Heap.{HeapFrame, HeapState, heap_state, heap_onward, execute_on, heap_step}
 use Rattle.rules.specs.HeapRun.{end_on, result_on}
 use Rattle.rules.specs.Machine.{current, top}
-use Rattle.rules.specs.Program.{Program, function}
+use Rattle.rules.specs.Program.{Program}
 use Rattle.rules.specs.Records.{program_in}
 use Rattle.rules.specs.Stacks.{split, push}
 use Rattle.rules.specs.declared.records.Instruction.TheVariants.{Call, Return}

@@ -2,7 +2,6 @@
 use native.Mathlib.Omega.{arith}
 use Rattle.machine.specs.Turns.{enter_deep, enter_full, enter_goes}
 use Rattle.fetch.proofs.IndexLaws.{function_small}
-use borrow.Author.Rules.{rules}
 use Rattle.machine.proofs.frames.enter.Goals as goal
 
 pub function_arity-n-requires : goal.function_arity-n-requires

@@ -1,7 +1,6 @@
 -- The waiting frame's numbers are widened, and the top value takes the place of the call's arguments.
 use native.Mathlib.Omega.{arith}
 use Rattle.machine.specs.Turns.{leave_goes}
-use borrow.Author.Rules.{rules}
 use Rattle.machine.proofs.frames.leave.Goals as goal
 
 pub function_arity-n-requires : goal.function_arity-n-requires

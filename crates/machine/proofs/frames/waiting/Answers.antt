@@ -1,7 +1,6 @@
 -- The frame's registers in 16 bits each.
 use native.Mathlib.Omega.{arith}
 use Rattle.fetch.proofs.PlaceLaws.{offset_small}
-use borrow.Author.Rules.{rules}
 use Rattle.machine.proofs.frames.waiting.Goals as goal
 
 pub overflow_cast-result-2 : goal.overflow_cast-result-2

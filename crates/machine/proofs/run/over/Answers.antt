@@ -1,5 +1,4 @@
 use Rattle.machine.specs.Turns.{over_other, over_result}
-use borrow.Author.Rules.{rules}
 use Rattle.machine.proofs.run.over.Goals as goal
 
 pub returns-then-r-ne-RETURNS : goal.returns-then-r-ne-RETURNS

@@ -1,6 +1,5 @@
 use Rattle.machine.specs.Turns.{settles_other, settles_above, settles_spent, settles_result}
 use native.Mathlib.Omega.{arith}
-use borrow.Author.Rules.{rules}
 use Rattle.machine.proofs.run.settled.Goals as goal
 
 pub returns-then-r-ne-NO_STEPS : goal.returns-then-r-ne-NO_STEPS
