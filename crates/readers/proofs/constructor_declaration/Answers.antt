@@ -9,7 +9,6 @@ use Rattle.rules.specs.Established.{Verified}
 use Rattle.rules.specs.Records.{constructor_offset, declaration_at}
 use Rattle.rules.proofs.SameLaws.{declaration_same}
 use Rattle.fields.proofs.SpotLaws.{Spot, near_reaches, near_same, payload_spot}
-use borrow.Author.Rules.{rules}
 use Rattle.readers.proofs.constructor_declaration.Goals as goal
 
 -- constructor c of the first 62

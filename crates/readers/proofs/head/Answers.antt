@@ -4,7 +4,6 @@ use native.Mathlib.Omega.{arith}
 use Rattle.rules.specs.Container.{payload}
 use Rattle.rules.proofs.SameLaws.{head_same}
 use Rattle.fields.proofs.SpotLaws.{Spot, near_reaches, near_same, far_reaches, far_same, payload_spot}
-use borrow.Author.Rules.{rules}
 use Rattle.readers.proofs.head.Goals.{After-left_in_block-left}
 use Rattle.readers.proofs.head.Goals as goal
 

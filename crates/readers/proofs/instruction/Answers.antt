@@ -5,7 +5,6 @@ use Rattle.rules.specs.declared.records.Instruction.{Instruction}
 use Rattle.rules.specs.declared.records.Instruction.TheVariants.{Stop}
 use Rattle.rules.specs.Records.{or_else, instruction_of}
 use Rattle.ranges.specs.Fetched.{fetched}
-use borrow.Author.Rules.{rules}
 use Rattle.readers.proofs.instruction.Goals as goal
 
 pub returns-in-Is : goal.returns-in-Is

@@ -1,7 +1,6 @@
 -- `report::numbers_of` meets its contract: each arm says what the definition says of its variant. Assumes nothing.
 use mathlib.Core.Path.{sym, ap, ◌∙◌}
 use Rattle.rules.specs.Answers.{refusal_of}
-use borrow.Author.Rules.{rules}
 use Rattle.report.proofs.numbers_of.Goals as goal
 
 pub returns-in-BadLength : goal.returns-in-BadLength

@@ -1,12 +1,8 @@
 -- `check_alternatives` meets its contract: at each turn what is left to check is the records from `k` on.
-use mathlib.Core.Path.{ap, ◌∙◌}
 use Prim.Native.Nat.{◌-◌}
-use native.Mathlib.Omega.{arith}
 use Rattle.rules.specs.Container.{payload}
 use Rattle.rules.specs.Records.{alternative_at, alternative_right, alternative_offset, record_right}
-use Rattle.rules.proofs.PassLaws.{Passing, pass_first, pass_stop, pass_next, pass_end}
-use Rattle.program.proofs.OpenLaws.{record_cut, record_bad, record_good}
-use borrow.Author.Rules.{rules}
+use Rattle.rules.proofs.PassLaws.{Passing}
 use Rattle.program.proofs.opening.check_alternatives.Given as goal
 
 abbrev pub invariant-loop-k : goal.invariant-loop-k

@@ -3,7 +3,6 @@ use Prim.Native.Nat.{◌≤◌}
 use native.Mathlib.Omega.{arith}
 use Rattle.rules.proofs.PassLaws.{told_as}
 use Rattle.program.proofs.OpenLaws.{placed_cut, placed_bad, placed_alternatives, placed_code}
-use borrow.Author.Rules.{rules}
 use mathlib.Core.Path.{ap}
 use mathlib.Core.Bool.{not}
 use Rattle.program.proofs.opening.check_function.Goals as goal

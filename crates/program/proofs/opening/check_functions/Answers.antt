@@ -1,9 +1,6 @@
 -- `check_functions` meets its contract: at each turn the functions below `g` have passed and stand where the table says.
 use mathlib.Core.Path.{refl}
-use Prim.Native.Nat.{◌-◌}
-use Rattle.rules.specs.Container.{payload}
-use Rattle.program.proofs.OpenLaws.{Scanned, scan_first, scan_stop, scan_next, scan_end}
-use borrow.Author.Rules.{rules}
+use Rattle.program.proofs.OpenLaws.{scan_first, scan_stop, scan_next, scan_end}
 use Rattle.program.proofs.opening.check_functions.Goals as goal
 
 pub loop-g-init : goal.loop-g-init

@@ -1,6 +1,5 @@
 -- `open` meets its contract: the header, then what stands behind it.
 use Rattle.program.proofs.OpenLaws.{open_cut, open_header, open_goes}
-use borrow.Author.Rules.{rules}
 use mathlib.Core.Path.{ap}
 use mathlib.Core.Bool.{not}
 use Rattle.program.proofs.opening.open.Goals as goal

@@ -2,7 +2,6 @@
 use native.Mathlib.Omega.{arith}
 use Rattle.rules.proofs.PassLaws.{told_as}
 use Rattle.program.proofs.OpenLaws.{open_first, open_few, open_constructors, open_functions, open_end, open_right}
-use borrow.Author.Rules.{rules}
 use Rattle.program.proofs.opening.open_behind.Goals as goal
 
 pub returns-in-Refused : goal.returns-in-Refused

@@ -1,9 +1,7 @@
 -- `report::line::put` meets its contract: the bytes passed are pasted. Assumes nothing.
-use Prim.Native.Nat.{◌-◌}
 use mathlib.Core.Path.{refl}
 use native.Mathlib.Omega.{arith}
-use lib.ListN.{length}
-use Rattle.rules.proofs.WriteLaws.{Pasted, pasted_start, pasted_next, pasted_end}
+use Rattle.rules.proofs.WriteLaws.{pasted_start, pasted_next, pasted_end}
 use Rattle.report.proofs.line.put.Goals as goal
 
 pub loop-i-init : goal.loop-i-init

@@ -2,7 +2,6 @@
 use mathlib.Core.List.{[], ◌∷◌}
 use Rattle.report.specs.Line.{spaced}
 use Rattle.report.proofs.LineLaws.{front_first, front_next}
-use borrow.Author.Rules.{rules}
 use Rattle.report.proofs.line.put_line.Goals as goal
 
 pub returns : goal.returns

@@ -2,7 +2,6 @@
 use Rattle.rules.specs.Answers.{told}
 use Rattle.report.specs.Line.{verdict_line}
 use Rattle.report.proofs.LineLaws.{counts_front, refused_line}
-use borrow.Author.Rules.{rules}
 use Rattle.report.proofs.line.write_verdict.Goals as goal
 
 pub returns-in-Accepted : goal.returns-in-Accepted
