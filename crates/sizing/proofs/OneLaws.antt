@@ -7,7 +7,7 @@ use lib.ListN.{length, get_or, set, take, length-set}
 use lib.Seq.{get_or-set_same}
 use Rattle.rules.specs.declared.records.Alternative.{Alternative}
 use Rattle.rules.specs.Lists.{l[], ◌l∷◌}
-use Rattle.rules.specs.Forms.{Form, added, flat_map}
+use Rattle.rules.specs.Forms.{added, flat_map}
 use Rattle.sizing.specs.declared.forms.Form as code
 use Rattle.sizing.specs.Put.{Wide, Bounded, AllBounded, no_alternative}
 use Rattle.sizing.specs.Forms.{form_in, FormRight, Entry, FormMade, choices}

@@ -16,7 +16,7 @@ use Rattle.rules.specs.Base.{refusal, found, refused, if◌then◌else◌}
 use Rattle.rules.specs.Program.{constructor, Constructor, Function, Program, arity}
 use Rattle.rules.specs.Tree.{Trees, node, cons, from_list, made}
 use Rattle.rules.specs.Stacks.{split}
-use Rattle.rules.specs.Expressions.{Symbol, variable, known, Expression, variables, replace, replace_all}
+use Rattle.rules.specs.Expressions.{Symbol, known, Expression, variables, replace, replace_all}
 use Rattle.rules.specs.Shapes.{covered_at, branch_on, split_variable, shape_from, shape_rule}
 use Rattle.rules.proofs.Models.{to_from}
 use Rattle.sizing.specs.declared.splits.Split.{Split}

@@ -8,9 +8,9 @@ use lib.ListN.{length, get_or, replicate}
 use lib.Dec.{eqb, ltb}
 use borrow.Author.Tests.{eqb-true, eqb-false, ne_eqb, ltb-true, ltb-false}
 use Rattle.rules.specs.declared.records.Alternative.{Alternative}
-use Rattle.rules.specs.Program.{Program, arity}
+use Rattle.rules.specs.Program.{Program}
 use Rattle.rules.specs.Tree.{from_list}
-use Rattle.rules.specs.Expressions.{variable, Expression, variables, replace}
+use Rattle.rules.specs.Expressions.{Expression, variables, replace}
 use Rattle.rules.specs.Forms.{Form, added, variable_only, flat_map, substituted, built_form, form_of, forms_of, covers}
 use Rattle.sizing.specs.declared.splits.Split.{Split}
 use Rattle.sizing.specs.Put.{coefficient, put, Wide, AllWide}

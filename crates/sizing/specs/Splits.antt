@@ -1,6 +1,6 @@
 -- The splits of a path, oldest first: what a variable stands for after them, and its size.
 use Rattle.std.specs.Prelude.{◌≡◌, ℕ, zero, suc, ◌+◌, ◌≤◌, ◌<◌, List, [], ◌∷◌, map, ◌⊎◌, length, get_or, take}
-use Rattle.std.proofs.Math.Option.{none, some}
+use Rattle.std.proofs.Math.Option.{some}
 use Rattle.rules.specs.declared.records.Alternative.{Alternative}
 use Rattle.rules.specs.Base.{byte_at}
 use Rattle.rules.specs.Container.{payload}

@@ -1,6 +1,5 @@
 -- `check_code` meets its contract: the first pass that refuses gives the refusal, and where none does the program is accepted.
 use Rattle.verifier.proofs.ExamineLaws.{flow_refused, flow_right_lem, types_refused, types_right_lem, sizes_told}
-use borrow.Author.Rules.{rules}
 use Rattle.verifier.proofs.check_code.Goals as goal
 
 pub flows-flow-requires : goal.flows-flow-requires
@@ -20,12 +19,11 @@ returns-in-Refused-types c =
     c.in-Refused-types.is
 
 pub sizes-requires : goal.sizes-requires
-sizes-requires c =
-    (
-      types_right_lem (flow_right_lem c.requires.0 c.flows-flow.ensures c.in_default.is) c.types-types.ensures
-          c.in_default-types.is,
-      c.requires.1,
-    )
+sizes-requires c = (
+  types_right_lem (flow_right_lem c.requires.0 c.flows-flow.ensures c.in_default.is) c.types-types.ensures
+      c.in_default-types.is,
+  c.requires.1,
+)
 
 pub returns : goal.returns
 returns c =

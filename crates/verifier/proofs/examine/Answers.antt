@@ -1,7 +1,6 @@
 -- `examine` meets its contract: the blocks first, then the payload.
 use Rattle.blocks.proofs.VerifyLaws.{verified_measured, verified_refused}
 use Rattle.verifier.proofs.ExamineLaws.{not_verified, refused_examined}
-use borrow.Author.Rules.{rules}
 use Rattle.verifier.proofs.examine.Goals as goal
 
 pub examine_payload-requires : goal.examine_payload-requires

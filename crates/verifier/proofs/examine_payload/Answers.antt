@@ -1,6 +1,5 @@
 -- `examine_payload` meets its contract: a refusal of a part is the verdict's, and the counts are the header's.
 use Rattle.verifier.proofs.ExamineLaws.{refused_examined, accepted_examined}
-use borrow.Author.Rules.{rules}
 use Rattle.verifier.proofs.examine_payload.Goals as goal
 
 pub returns-in-Refused : goal.returns-in-Refused

@@ -4,7 +4,6 @@ use native.Mathlib.Omega.{arith}
 use Rattle.rules.specs.Container.{payload}
 use Rattle.rules.specs.Records.{alternative_at}
 use Rattle.sizing.specs.Bounds.{row_in}
-use borrow.Author.Rules.{rules}
 use Rattle.sizing.proofs.bounds.row_of.Goals as goal
 
 pub returns-then-bound : goal.returns-then-bound

@@ -1,24 +1,14 @@
 -- What is left of the form decides.
-use mathlib.Core.Path.{◌≡◌, refl, sym, ap, ◌∙◌}
-use Prim.Native.Nat.{◌≤◌, ◌-◌}
+use mathlib.Core.Path.{refl, sym, ap, ◌∙◌}
 use native.Mathlib.Omega.{arith}
-use lib.ListN.{drop}
-use mathlib.Core.Bool.{Bool}
-use borrow.Author.Tests.{not-true, not-false}
-use Rattle.rules.specs.declared.records.Alternative.{Alternative}
-use Rattle.rules.specs.Base.{any, all}
-use Rattle.rules.specs.Forms.{matches, covers}
-use Rattle.sizing.specs.declared.forms.Form.{Form}
+use Rattle.rules.specs.Forms.{covers}
 use Rattle.sizing.specs.Put.{no_alternative}
 use Rattle.sizing.specs.Forms.{form_in}
 use Rattle.sizing.proofs.CodeLaws.{all_next, all_stop, all_end}
 use Rattle.sizing.proofs.RightLaws.{form_length, form_at, form_wide}
 use borrow.Author.Rules.{rules}
+use Rattle.sizing.proofs.cover.covered_by.Invariants.{in-bound}
 use Rattle.sizing.proofs.cover.covered_by.Goals as goal
-
--- an alternative that the bound matches
-abbrev in-bound : Form → Alternative → Bool
-in-bound b a = any (matches a) (form_in b)
 
 pub loop-i-init : goal.loop-i-init
 unfolding covers

@@ -1,20 +1,18 @@
 -- What is left of the form decides.
-use mathlib.Core.Path.{◌≡◌, refl, sym, ap, ◌∙◌}
+use mathlib.Core.Path.{◌≡◌}
 use Prim.Native.Nat.{◌≤◌, ◌-◌}
-use native.Mathlib.Omega.{arith}
 use lib.ListN.{drop}
 use mathlib.Core.Bool.{Bool}
-use borrow.Author.Tests.{not-true, not-false}
 use Rattle.rules.specs.declared.records.Alternative.{Alternative}
 use Rattle.rules.specs.Base.{any, all}
 use Rattle.rules.specs.Forms.{matches, covers}
 use Rattle.sizing.specs.declared.forms.Form.{Form}
-use Rattle.sizing.specs.Put.{no_alternative}
 use Rattle.sizing.specs.Forms.{form_in}
-use Rattle.sizing.proofs.CodeLaws.{all_next, all_stop, all_end}
-use Rattle.sizing.proofs.RightLaws.{form_length, form_at, form_wide}
-use borrow.Author.Rules.{rules}
 use Rattle.sizing.proofs.cover.covered_by.Given as goal
+
+-- an alternative that the bound matches
+abbrev pub in-bound : Form → Alternative → Bool
+in-bound b a = any (matches a) (form_in b)
 
 abbrev pub invariant-loop-i : goal.invariant-loop-i
 invariant-loop-i l = (l.i ≤ l.n) × (covers (form_in l.bound) (form_in l.form) ≡ all (in-bound l.bound) (drop l.i (form_in l.form)))

@@ -1,11 +1,8 @@
 -- What is left to compare decides.
-use mathlib.Core.Path.{◌≡◌, sym, ◌∙◌}
-use native.Mathlib.Omega.{arith}
+use mathlib.Core.Path.{◌≡◌}
 use lib.ListN.{drop}
 use Rattle.rules.specs.Forms.{matches, at_most}
-use Rattle.sizing.proofs.CodeLaws.{matches_low, matches_high, at_most_next, at_most_stop, at_most_end}
 use Prim.Native.Nat.{◌≤◌, ◌-◌}
-use borrow.Author.Rules.{rules}
 use Rattle.sizing.proofs.cover.matched_by.Given as goal
 
 abbrev pub invariant-loop-i : goal.invariant-loop-i

@@ -1,9 +1,6 @@
 -- What is left of the bound decides.
-use mathlib.Core.Path.{◌≡◌, refl, sym, ap, ◌∙◌}
-use Prim.Native.Nat.{◌≤◌, ◌-◌}
+use mathlib.Core.Path.{refl, sym, ap, ◌∙◌}
 use native.Mathlib.Omega.{arith}
-use lib.ListN.{drop}
-use Rattle.rules.specs.Base.{any}
 use Rattle.rules.specs.Forms.{matches}
 use Rattle.sizing.specs.Put.{no_alternative}
 use Rattle.sizing.specs.Forms.{form_in}

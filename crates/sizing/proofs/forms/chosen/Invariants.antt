@@ -1,11 +1,6 @@
 -- The first i choices are there.
-use mathlib.Core.Path.{◌≡◌}
-use Prim.Native.Nat.{◌≤◌, ◌*◌, ◌-◌}
-use native.Mathlib.Omega.{arith}
-use native.Mathlib.Nat.{mul-le-mul}
-use Rattle.sizing.proofs.ChoiceLaws.{Choosing, choosing_start, choice_first, choice_second, choice_below, choosing_next}
-use Rattle.sizing.proofs.ChoiceLaws.{choosing_end, choosing_many}
-use borrow.Author.Rules.{rules}
+use Prim.Native.Nat.{◌≤◌, ◌-◌}
+use Rattle.sizing.proofs.ChoiceLaws.{Choosing}
 use Rattle.sizing.proofs.forms.chosen.Given as goal
 
 abbrev pub invariant-loop-i : goal.invariant-loop-i

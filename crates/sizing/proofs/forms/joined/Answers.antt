@@ -1,10 +1,10 @@
 -- The first i alternatives of y are appended.
 use mathlib.Core.Path.{◌≡◌, refl, sym, ◌∙◌}
-use mathlib.Core.List.{◌++◌, append-nil}
-use Prim.Native.Nat.{◌≤◌, ◌+◌, ◌-◌}
+use mathlib.Core.List.{append-nil}
+use Prim.Native.Nat.{◌+◌}
 use native.Mathlib.Omega.{arith}
 use native.Mathlib.Nat.{add-zero}
-use lib.ListN.{length, get_or, take, length-set}
+use lib.ListN.{get_or, length-set}
 use Rattle.sizing.specs.Put.{no_alternative}
 use Rattle.sizing.specs.Forms.{form_in}
 use Rattle.rules.proofs.ListLaws.{all_append}

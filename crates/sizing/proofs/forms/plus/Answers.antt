@@ -1,10 +1,10 @@
 -- The coefficients before i are done.
 use mathlib.Core.Path.{refl}
-use Prim.Native.Nat.{ℕ, ◌≤◌, ◌-◌, ◌*◌}
+use Prim.Native.Nat.{ℕ, ◌≤◌, ◌*◌}
 use native.Mathlib.Omega.{arith}
 use native.Mathlib.Nat.{mul-le-mul}
 use Rattle.sizing.specs.Put.{coefficient}
-use Rattle.sizing.proofs.BuildLaws.{Plus, plus_next, plus_end}
+use Rattle.sizing.proofs.BuildLaws.{plus_next, plus_end}
 use borrow.Author.Rules.{rules}
 use Rattle.sizing.proofs.forms.plus.Goals as goal
 

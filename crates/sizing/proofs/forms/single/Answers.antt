@@ -5,7 +5,6 @@ use native.Mathlib.Omega.{arith}
 use lib.ListN.{set, take, length-set}
 use Rattle.rules.specs.Lists.{l[], ◌l∷◌}
 use Rattle.sizing.proofs.ListLaws.{take_stored}
-use borrow.Author.Rules.{rules}
 use Rattle.sizing.proofs.forms.single.Goals as goal
 
 pub returns : goal.returns

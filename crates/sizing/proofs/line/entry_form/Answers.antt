@@ -1,5 +1,4 @@
 -- A variable alone, taken through the splits.
-use borrow.Author.Rules.{rules}
 use Rattle.sizing.proofs.line.entry_form.Goals as goal
 
 pub carry-requires : goal.carry-requires

@@ -1,75 +1,74 @@
 -- The stack is filled with the forms of its entries; then what is left of the walk is the same at each instruction of the line, and all
 -- entries are covered.
 use mathlib.Core.Path.{◌≡◌, refl, sym, ap, ◌∙◌}
-use mathlib.Core.List.{[], ◌∷◌}
-use mathlib.Core.Logic.{⊎_elim}
+use mathlib.Core.List.{List}
 use mathlib.Core.Option.{some}
 use Prim.Native.Nat.{ℕ, ◌+◌, ◌-◌, ◌≤◌, ◌<◌}
 use native.Mathlib.Omega.{arith}
 use lib.ListN.{length}
 use borrow.Author.Tests.{not-true, not-false}
-use denote.Enum.Declared.{tag_of}
-use types.Run.{OneOf}
 use Rattle.rules.specs.Records.{function_in, instruction_offset}
-use Rattle.rules.specs.contracts.records.Instruction.{the_type}
-use Rattle.rules.specs.declared.records.Instruction.{Instruction}
 use Rattle.rules.specs.declared.records.Instruction.TheVariants.{Load}
 use Rattle.rules.specs.Container.{payload}
 use Rattle.rules.specs.Stacks.{slot}
+use Rattle.sizing.specs.declared.forms.Form.{Form}
+use Rattle.sizing.specs.declared.paths.Saved.{Saved}
+use Rattle.sizing.specs.declared.routines.Routine.{Routine}
 use Rattle.sizing.specs.Right.{shape_in}
-use Rattle.sizing.specs.Steps.{FormsAre}
+use Rattle.sizing.specs.Steps.{FormsAre, OwnIs}
+use Rattle.sizing.specs.Walking.{LineAsks}
 use Rattle.sizing.proofs.ReachLaws.{at_place, at_instruction, operand_there}
 use Rattle.sizing.proofs.ConvertLaws.{forms_next}
-use Rattle.sizing.proofs.StraightLaws.{Line, LineGoes, Making, line_own_asks, line_entry_asks, line_right_lem, line_start}
+use Rattle.sizing.proofs.StraightLaws.{Line, LineGoes, line_own_asks, line_entry_asks, line_right_lem, line_start}
 use Rattle.sizing.proofs.StraightLaws.{line_load_asks, line_load, line_end, line_making, line_from, line_arguments, line_large}
 use Rattle.sizing.proofs.StraightLaws.{line_uncovered, line_made}
 use borrow.Author.Rules.{rules}
-use Rattle.sizing.proofs.line.straight_line.Goals.{At-loop-m, After-instruction-ins, In-Load-2, After-struct_known-in-loop-m-2-1}
+use Rattle.sizing.proofs.line.straight_line.Goals.{At-loop-m, After-instruction-ins, In-Load, Else-not-m}
 use Rattle.sizing.proofs.line.straight_line.Goals as goal
 
 -- the line as it stands where the loop begins again
-goes : (c : At-loop-m) → LineGoes c.args.file.now c.args.g c.args.start
-    (shape_in (function_in c.args.file.now c.args.g) c.args.st) c.own_form-own.result
-    c.loop-m.stack c.loop-m.height c.loop-m.j
-goes c =
-    let all : c.loop-height.height ≡ c.args.st.height = omega arith in
-    c.loop-m.invariant (shape_in (function_in c.args.file.now c.args.g) c.args.st)
-    (line_right_lem c.requires all c.own_form-own.ensures c.loop-height.invariant.1)
+goes : {file heads : List ℕ} {g : ℕ} {f : Routine} {start : ℕ} {st : Saved} {own : Form} {stack₀ stack : List Form} {height₀ height j : ℕ}
+    → LineAsks file heads g f start st → OwnIs file f.bound (record { taken = st.taken; list = st.list }) own
+    → (height₀ ≤ st.height) × FormsAre file st height₀ stack₀ → st.height ≤ height₀
+    → Line file g start own stack₀ height₀ stack height j
+    → LineGoes file g start (shape_in (function_in file g) st) own stack height j
+goes a o k m l = l _ (line_right_lem a (omega (arith, k.0, m)) o k.1)
 
 place : (c : At-loop-m) → (1 ≤ c.loop-m.j) × (c.loop-m.j ≤ length (function_in c.args.file.now c.args.g).code) × (c.loop-m.j ≤ 256)
     × (instruction_offset c.args.f.base (c.loop-m.j - 1) + 4 ≤ length (payload c.args.file.now))
 place c =
-    at_place c.requires.walking c.requires.there (goes c).at c.args.f.base c.requires.routine.base
+    let l = goes c.requires c.own_form-own.ensures c.loop-height.invariant c.loop-height-test.false c.loop-m.invariant in
+    at_place c.requires.walking c.requires.there l.at c.args.f.base c.requires.routine.base
 
-is : (c : After-instruction-ins) → slot c.loop-m.j (function_in c.args.file.now c.args.g).code ≡ some c.instruction-ins.result
+-- the line, and the instruction that is read
+is : (c : After-instruction-ins) → LineGoes c.args.file.now c.args.g c.args.start
+    (shape_in (function_in c.args.file.now c.args.g) c.args.st) c.own_form-own.result c.loop-m.stack c.loop-m.height c.loop-m.j
+    × (slot c.loop-m.j (function_in c.args.file.now c.args.g).code ≡ some c.instruction-ins.result)
 is c =
-    at_instruction c.requires.walking c.requires.there (goes (?At-loop-m)).at c.args.f.base c.requires.routine.base
-    c.instruction_offset.ensures c.instruction-ins.result c.instruction-ins.ensures
+    let l = goes c.requires c.own_form-own.ensures c.loop-height.invariant c.loop-height-test.false c.loop-m.invariant in (
+      l,
+      at_instruction c.requires.walking c.requires.there l.at c.args.f.base c.requires.routine.base
+          c.instruction_offset.ensures c.instruction-ins.result c.instruction-ins.ensures,
+    )
 
-loads : (c : In-Load-2) → slot c.loop-m.j (function_in c.args.file.now c.args.g).code ≡ some (Load c.in-Load.a)
-loads c = is (?After-instruction-ins) ∙ ap some c.in-Load.is
-
-load_asks : (c : In-Load-2) → (1 ≤ c.in-Load.a) × (c.in-Load.a ≤ c.loop-m.height) × (c.loop-m.height < 16)
+load_asks : (c : In-Load) → (slot c.loop-m.j (function_in c.args.file.now c.args.g).code ≡ some (Load c.in-Load.a))
+    × (1 ≤ c.in-Load.a) × (c.in-Load.a ≤ c.loop-m.height) × (c.loop-m.height < 16)
 load_asks c =
-    line_load_asks c.requires (goes (?At-loop-m)) c.in-Load.a (loads c)
+    let l = goes c.requires c.own_form-own.ensures c.loop-height.invariant c.loop-height-test.false c.loop-m.invariant in
+    let e = at_instruction c.requires.walking c.requires.there l.at c.args.f.base c.requires.routine.base
+    c.instruction_offset.ensures c.instruction-ins.result c.instruction-ins.ensures ∙ ap some c.in-Load.is in
+    let q = line_load_asks c.requires l c.in-Load.a e in
+    (e, q.0, q.1, q.2)
 
-making : (c : After-struct_known-in-loop-m-2-1) → Making c.requires (goes (?At-loop-m)) c.instruction-ins.result c.maker_of-m.result
-making c =
-    line_making c.requires (goes (?At-loop-m)) c.instruction-ins.result (is (?After-instruction-ins)) c.maker_of-m.result
-    c.maker_of-m.ensures (c.if-not-m.false)
-
-low : (c : After-struct_known-in-loop-m-2-1)
-    → c.loop-m.height - c.maker_of-m.result.arity < 16
+-- the entries that a build or call takes are there
+low : (c : Else-not-m) → (c.maker_of-m.result.arity ≤ c.loop-m.height) × (c.loop-m.height - c.maker_of-m.result.arity < 16)
 low c =
-    (line_from c.requires (goes (?At-loop-m)) c.instruction-ins.result (is (?After-instruction-ins)) c.maker_of-m.result
-    (making c)).0
-
--- another tag than that of a load
-not-load : (ins : Instruction) → OneOf (1 ∷ 2 ∷ 3 ∷ 4 ∷ 5 ∷ []) (tag_of the_type ins) → (x : ℕ) → ins ≡ Load x → ⊥
-not-load ins k x e =
-    ⊎_elim (λ z. omega arith)
-    (λ r. ⊎_elim (λ z. omega arith) (λ q. ⊎_elim (λ z. omega arith) (λ s. ⊎_elim (λ z. omega arith) (λ z. omega arith) s) q) r)
-    (rw e at k)
+    let l = goes c.requires c.own_form-own.ensures c.loop-height.invariant c.loop-height-test.false c.loop-m.invariant in
+    let e = at_instruction c.requires.walking c.requires.there l.at c.args.f.base c.requires.routine.base
+    c.instruction_offset.ensures c.instruction-ins.result c.instruction-ins.ensures in
+    let k = line_making c.requires l c.instruction-ins.result e c.maker_of-m.result c.maker_of-m.ensures
+    (not-false _ c.if-not-m.false) in
+    (k.high, (line_from c.requires l c.instruction-ins.result e c.maker_of-m.result k).0)
 
 ---- The stack
 pub own_form-own-requires : goal.own_form-own-requires
@@ -128,126 +127,134 @@ instruction-ins-requires c =
 pub maker_of-m-requires : goal.maker_of-m-requires
 maker_of-m-requires c =
     let p = c.requires in
-    (p.walking.records, operand_there p.walking p.there (goes (goal.at.maker_of-m-requires c).At-loop-m).at c.instruction-ins.result (is c))
+    let r = is (goal.at.maker_of-m-requires c).After-instruction-ins in
+    (p.walking.records, operand_there p.walking p.there r.0.at c.instruction-ins.result r.1)
 
 pub returns-in_default : goal.returns-in_default
 returns-in_default c =
-    let e = line_end c.requires (goes (goal.at.returns-in_default c).At-loop-m) c.instruction-ins.result (is (goal.at.returns-in_default c).After-instruction-ins) c.maker_of-m.result
-    c.maker_of-m.ensures (c.if-not-m.true)
-    (not-load c.instruction-ins.result c.in_default.keys2) in
+    let r = is (goal.at.returns-in_default c).After-instruction-ins in
+    let e = line_end c.requires r.0 c.instruction-ins.result r.1 c.maker_of-m.result c.maker_of-m.ensures
+    (not-true _ c.if-not-m.true) c.in_default.not-Load in
     record { left = e.0; further = e.1 }
 
 pub overflow_sub-x : goal.overflow_sub-x
-overflow_sub-x c = omega (arith, (load_asks (goal.at.overflow_sub-x c).In-Load-2).0, c.wide.ensures.0)
+overflow_sub-x c = let q = load_asks (goal.at.overflow_sub-x c).In-Load in omega (arith, q.1, c.wide.ensures.0)
 
 pub offset_bounds-stack-wide : goal.offset_bounds-stack-wide
 offset_bounds-stack-wide c = omega (arith, c.wide.ensures.1)
 
 pub bounds-stack-wide : goal.bounds-stack-wide
-bounds-stack-wide c = omega (arith, (load_asks (goal.at.bounds-stack-wide c).In-Load-2).1, (load_asks (goal.at.bounds-stack-wide c).In-Load-2).2, c.wide.ensures.0)
+bounds-stack-wide c = let q = load_asks (goal.at.bounds-stack-wide c).In-Load in omega (arith, q.2, q.3, c.wide.ensures.0)
 
 pub offset_bounds-stack-height-then-not-m : goal.offset_bounds-stack-height-then-not-m
-offset_bounds-stack-height-then-not-m c = omega (arith, (load_asks (goal.at.offset_bounds-stack-height-then-not-m c).In-Load-2).2)
+offset_bounds-stack-height-then-not-m c = let q = load_asks (goal.at.offset_bounds-stack-height-then-not-m c).In-Load in omega (arith, q.3)
 
 pub bounds-stack-height-then-not-m : goal.bounds-stack-height-then-not-m
-bounds-stack-height-then-not-m c = omega (arith, (load_asks (goal.at.bounds-stack-height-then-not-m c).In-Load-2).2)
+bounds-stack-height-then-not-m c = let q = load_asks (goal.at.bounds-stack-height-then-not-m c).In-Load in omega (arith, q.3)
 
 pub overflow_add-height-then-not-m : goal.overflow_add-height-then-not-m
-overflow_add-height-then-not-m c = omega (arith, (load_asks (goal.at.overflow_add-height-then-not-m c).In-Load-2).2)
+overflow_add-height-then-not-m c = let q = load_asks (goal.at.overflow_add-height-then-not-m c).In-Load in omega (arith, q.3)
 
 pub loop-m-smaller-then-not-m : goal.loop-m-smaller-then-not-m
 loop-m-smaller-then-not-m c = omega (arith, (place (goal.at.loop-m-smaller-then-not-m c).At-loop-m).2)
 
 pub loop-m-preserved-then-not-m : goal.loop-m-preserved-then-not-m
 loop-m-preserved-then-not-m c =
-    λ from r. rw c.wide.ensures.0 (line_load c.requires (c.loop-m.invariant from r) c.in-Load.a (loads (goal.at.loop-m-preserved-then-not-m c).In-Load-2))
+    let q = load_asks (goal.at.loop-m-preserved-then-not-m c).In-Load in
+    λ from r. rw c.wide.ensures.0 (line_load c.requires (c.loop-m.invariant from r) c.in-Load.a q.0)
 
 pub overflow_sub-at : goal.overflow_sub-at
-overflow_sub-at c = (making c).high
+overflow_sub-at c = (low (goal.at.overflow_sub-at c).Else-not-m).0
 
 pub offset_bounds-stack-at : goal.offset_bounds-stack-at
-offset_bounds-stack-at c = omega (arith, low (goal.at.offset_bounds-stack-at c).After-struct_known-in-loop-m-2-1)
+offset_bounds-stack-at c = omega (arith, (low (goal.at.offset_bounds-stack-at c).Else-not-m).1)
 
 pub bounds-stack-at : goal.bounds-stack-at
-bounds-stack-at c = omega (arith, low (goal.at.bounds-stack-at c).After-struct_known-in-loop-m-2-1)
+bounds-stack-at c = omega (arith, (low (goal.at.bounds-stack-at c).Else-not-m).1)
 
 pub overflow_add-arguments : goal.overflow_add-arguments
-overflow_add-arguments c = omega (arith, low (goal.at.overflow_add-arguments c).After-struct_known-in-loop-m-2-1)
+overflow_add-arguments c = omega (arith, (low (goal.at.overflow_add-arguments c).Else-not-m).1)
 
 pub offset_bounds-stack-at-in-loop-m : goal.offset_bounds-stack-at-in-loop-m
-offset_bounds-stack-at-in-loop-m c = omega (arith, low (goal.at.offset_bounds-stack-at-in-loop-m c).After-struct_known-in-loop-m-2-1)
+offset_bounds-stack-at-in-loop-m c = omega (arith, (low (goal.at.offset_bounds-stack-at-in-loop-m c).Else-not-m).1)
 
 pub bounds-stack-at-in-loop-m : goal.bounds-stack-at-in-loop-m
-bounds-stack-at-in-loop-m c = omega (arith, low (goal.at.bounds-stack-at-in-loop-m c).After-struct_known-in-loop-m-2-1)
+bounds-stack-at-in-loop-m c = omega (arith, (low (goal.at.bounds-stack-at-in-loop-m c).Else-not-m).1)
 
 pub overflow_add-arguments-in-loop-m : goal.overflow_add-arguments-in-loop-m
-overflow_add-arguments-in-loop-m c = omega (arith, low (goal.at.overflow_add-arguments-in-loop-m c).After-struct_known-in-loop-m-2-1)
+overflow_add-arguments-in-loop-m c = omega (arith, (low (goal.at.overflow_add-arguments-in-loop-m c).Else-not-m).1)
 
 pub offset_bounds-stack-at-in-loop-m-2 : goal.offset_bounds-stack-at-in-loop-m-2
-offset_bounds-stack-at-in-loop-m-2 c = omega (arith, low (goal.at.offset_bounds-stack-at-in-loop-m-2 c).After-struct_known-in-loop-m-2-1)
+offset_bounds-stack-at-in-loop-m-2 c = omega (arith, (low (goal.at.offset_bounds-stack-at-in-loop-m-2 c).Else-not-m).1)
 
 pub bounds-stack-at-in-loop-m-2 : goal.bounds-stack-at-in-loop-m-2
-bounds-stack-at-in-loop-m-2 c = omega (arith, low (goal.at.bounds-stack-at-in-loop-m-2 c).After-struct_known-in-loop-m-2-1)
+bounds-stack-at-in-loop-m-2 c = omega (arith, (low (goal.at.bounds-stack-at-in-loop-m-2 c).Else-not-m).1)
 
 pub overflow_add-arguments-in-loop-m-2 : goal.overflow_add-arguments-in-loop-m-2
-overflow_add-arguments-in-loop-m-2 c = omega (arith, low (goal.at.overflow_add-arguments-in-loop-m-2 c).After-struct_known-in-loop-m-2-1)
+overflow_add-arguments-in-loop-m-2 c = omega (arith, (low (goal.at.overflow_add-arguments-in-loop-m-2 c).Else-not-m).1)
 
 pub offset_bounds-stack-at-in-loop-m-3 : goal.offset_bounds-stack-at-in-loop-m-3
-offset_bounds-stack-at-in-loop-m-3 c = omega (arith, low (goal.at.offset_bounds-stack-at-in-loop-m-3 c).After-struct_known-in-loop-m-2-1)
+offset_bounds-stack-at-in-loop-m-3 c = omega (arith, (low (goal.at.offset_bounds-stack-at-in-loop-m-3 c).Else-not-m).1)
 
 pub bounds-stack-at-in-loop-m-3 : goal.bounds-stack-at-in-loop-m-3
-bounds-stack-at-in-loop-m-3 c = omega (arith, low (goal.at.bounds-stack-at-in-loop-m-3 c).After-struct_known-in-loop-m-2-1)
+bounds-stack-at-in-loop-m-3 c = omega (arith, (low (goal.at.bounds-stack-at-in-loop-m-3 c).Else-not-m).1)
 
 pub into_bound-x-requires : goal.into_bound-x-requires
-into_bound-x-requires c = (
-  c.requires.walking.records.verified,
-  (making (goal.at.into_bound-x-requires c).After-struct_known-in-loop-m-2-1).bound,
-  line_arguments c.requires (goes (goal.at.into_bound-x-requires c).At-loop-m) c.instruction-ins.result (is (goal.at.into_bound-x-requires c).After-instruction-ins) c.maker_of-m.result
-      (making (goal.at.into_bound-x-requires c).After-struct_known-in-loop-m-2-1),
-)
+into_bound-x-requires c =
+    let r = is (goal.at.into_bound-x-requires c).After-instruction-ins in
+    let k = line_making c.requires r.0 c.instruction-ins.result r.1 c.maker_of-m.result c.maker_of-m.ensures
+    (not-false _ c.if-not-m.false) in (
+      c.requires.walking.records.verified,
+      k.bound,
+      line_arguments c.requires r.0 c.instruction-ins.result r.1 c.maker_of-m.result k,
+    )
 
 pub returns-then-x-eq0 : goal.returns-then-x-eq0
 returns-then-x-eq0 c =
+    let r = is (goal.at.returns-then-x-eq0 c).After-instruction-ins in
+    let k = line_making c.requires r.0 c.instruction-ins.result r.1 c.maker_of-m.result c.maker_of-m.ensures
+    (not-false _ c.if-not-m.false) in
     rw c.place.ensures (record {
       left =
-          line_large c.requires (goes (goal.at.returns-then-x-eq0 c).At-loop-m) c.instruction-ins.result (is (goal.at.returns-then-x-eq0 c).After-instruction-ins) c.maker_of-m.result
-          (making (goal.at.returns-then-x-eq0 c).After-struct_known-in-loop-m-2-1) c.into_bound-x.result c.into_bound-x.ensures c.if-x-eq0.true;
+          line_large c.requires r.0 c.instruction-ins.result r.1 c.maker_of-m.result k c.into_bound-x.result
+          c.into_bound-x.ensures c.if-x-eq0.true;
       further = tt;
     })
 
 pub covered_by-requires : goal.covered_by-requires
 covered_by-requires c =
     let z : 0 < c.into_bound-x.result.count = omega (arith, c.if-x-eq0.false) in
-    ((goes (goal.at.covered_by-requires c).At-loop-m).line.bound, (c.into_bound-x.ensures.right z).0)
+    ((is (goal.at.covered_by-requires c).After-instruction-ins).0.line.bound, (c.into_bound-x.ensures.right z).0)
 
 pub returns-then-not-covered_by : goal.returns-then-not-covered_by
 returns-then-not-covered_by c =
+    let r = is (goal.at.returns-then-not-covered_by c).After-instruction-ins in
+    let k = line_making c.requires r.0 c.instruction-ins.result r.1 c.maker_of-m.result c.maker_of-m.ensures
+    (not-false _ c.if-not-m.false) in
     rw c.place-then-not-covered_by.ensures (record {
       left =
-          line_uncovered c.requires (goes (goal.at.returns-then-not-covered_by c).At-loop-m) c.instruction-ins.result (is (goal.at.returns-then-not-covered_by c).After-instruction-ins)
-          c.maker_of-m.result (making (goal.at.returns-then-not-covered_by c).After-struct_known-in-loop-m-2-1) c.into_bound-x.result c.into_bound-x.ensures
-          c.if-x-eq0.false (sym c.covered_by.ensures ∙ c.if-not-covered_by.true);
+          line_uncovered c.requires r.0 c.instruction-ins.result r.1 c.maker_of-m.result k c.into_bound-x.result
+          c.into_bound-x.ensures c.if-x-eq0.false (sym c.covered_by.ensures ∙ c.if-not-covered_by.true);
       further = tt;
     })
 
 pub offset_bounds-stack-at-in-loop-m-4 : goal.offset_bounds-stack-at-in-loop-m-4
-offset_bounds-stack-at-in-loop-m-4 c = omega (arith, low (goal.at.offset_bounds-stack-at-in-loop-m-4 c).After-struct_known-in-loop-m-2-1)
+offset_bounds-stack-at-in-loop-m-4 c = omega (arith, (low (goal.at.offset_bounds-stack-at-in-loop-m-4 c).Else-not-m).1)
 
 pub bounds-stack-at-in-loop-m-4 : goal.bounds-stack-at-in-loop-m-4
-bounds-stack-at-in-loop-m-4 c = omega (arith, low (goal.at.bounds-stack-at-in-loop-m-4 c).After-struct_known-in-loop-m-2-1)
+bounds-stack-at-in-loop-m-4 c = omega (arith, (low (goal.at.bounds-stack-at-in-loop-m-4 c).Else-not-m).1)
 
 pub overflow_add-height-in-loop-m : goal.overflow_add-height-in-loop-m
-overflow_add-height-in-loop-m c = omega (arith, low (goal.at.overflow_add-height-in-loop-m c).After-struct_known-in-loop-m-2-1)
+overflow_add-height-in-loop-m c = omega (arith, (low (goal.at.overflow_add-height-in-loop-m c).Else-not-m).1)
 
 pub loop-m-smaller : goal.loop-m-smaller
-loop-m-smaller c =
-    omega (arith, (place (goal.at.loop-m-smaller c).At-loop-m).2)
+loop-m-smaller c = omega (arith, (place (goal.at.loop-m-smaller c).At-loop-m).2)
 
 pub loop-m-preserved : goal.loop-m-preserved
 loop-m-preserved c =
+    let e = (is (goal.at.loop-m-preserved c).After-instruction-ins).1 in
     λ from r. let k =
-    line_making c.requires (c.loop-m.invariant from r) c.instruction-ins.result (is (goal.at.loop-m-preserved c).After-instruction-ins)
-    c.maker_of-m.result c.maker_of-m.ensures (c.if-not-m.false) in
-    line_made c.requires (c.loop-m.invariant from r) c.instruction-ins.result (is (goal.at.loop-m-preserved c).After-instruction-ins)
-    c.maker_of-m.result k c.into_bound-x.result c.into_bound-x.ensures c.if-x-eq0.false
-    (sym c.covered_by.ensures ∙ c.if-not-covered_by.false)
+    line_making c.requires (c.loop-m.invariant from r) c.instruction-ins.result e c.maker_of-m.result c.maker_of-m.ensures
+    (not-false _ c.if-not-m.false) in
+    line_made c.requires (c.loop-m.invariant from r) c.instruction-ins.result e c.maker_of-m.result k c.into_bound-x.result
+    c.into_bound-x.ensures c.if-x-eq0.false (sym c.covered_by.ensures ∙ c.if-not-covered_by.false)

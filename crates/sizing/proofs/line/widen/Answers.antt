@@ -1,6 +1,5 @@
 -- The four coefficients stand in front, and the others are 0.
 use Rattle.sizing.proofs.OwnLaws.{widened_four}
-use borrow.Author.Rules.{rules}
 use Rattle.sizing.proofs.line.widen.Goals as goal
 
 pub returns : goal.returns

@@ -4,7 +4,6 @@ use native.Mathlib.Omega.{arith}
 use lib.ListN.{length-set}
 use Rattle.sizing.specs.States.{splits_in}
 use Rattle.sizing.proofs.ListLaws.{take_stored}
-use borrow.Author.Rules.{rules}
 use Rattle.sizing.proofs.paths.add_taken.Goals as goal
 
 pub returns : goal.returns

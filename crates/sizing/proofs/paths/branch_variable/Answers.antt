@@ -6,7 +6,6 @@ use Rattle.sizing.specs.Steps.{top_of}
 use Rattle.rules.proofs.ListLaws.{false_true}
 use Rattle.sizing.proofs.StateLaws.{found_whole}
 use Rattle.sizing.proofs.StepLaws.{branch_taken, branch_other, branch_over, branch_split}
-use borrow.Author.Rules.{rules}
 use Rattle.sizing.proofs.paths.branch_variable.Goals as goal
 
 pub push_parts-requires : goal.push_parts-requires

@@ -1,7 +1,6 @@
 -- No split before i is one of the variable.
 use borrow.Author.Count.{below_more}
 use mathlib.Core.Path.{◌≡◌, sym}
-use Prim.Native.Nat.{ℕ, ◌≤◌, ◌<◌, ◌-◌}
 use native.Mathlib.Omega.{arith}
 use lib.ListN.{get_or}
 use Rattle.sizing.specs.Splits.{no_split}

@@ -1,11 +1,8 @@
 -- No split before i is one of the variable.
-use borrow.Author.Count.{below_more}
-use mathlib.Core.Path.{◌≡◌, sym}
+use mathlib.Core.Path.{◌≡◌}
 use Prim.Native.Nat.{ℕ, ◌≤◌, ◌<◌, ◌-◌}
-use native.Mathlib.Omega.{arith}
 use lib.ListN.{get_or}
 use Rattle.sizing.specs.Splits.{no_split}
-use borrow.Author.Rules.{rules}
 use Rattle.sizing.proofs.paths.find_split.Given as goal
 
 abbrev pub invariant-loop-i : goal.invariant-loop-i

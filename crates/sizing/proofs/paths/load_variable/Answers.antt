@@ -7,7 +7,6 @@ use lib.ListN.{get_or, length-set}
 use lib.Seq.{get_or-take}
 use Rattle.sizing.specs.States.{stack_in}
 use Rattle.sizing.proofs.ListLaws.{take_stored}
-use borrow.Author.Rules.{rules}
 use Rattle.sizing.proofs.paths.load_variable.Goals as goal
 
 pub returns : goal.returns

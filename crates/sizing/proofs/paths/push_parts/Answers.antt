@@ -1,11 +1,10 @@
 -- The first i parts are pushed.
 use mathlib.Core.Path.{◌≡◌, refl, sym, ◌∙◌}
-use mathlib.Core.List.{◌++◌, append-nil}
-use Prim.Native.Nat.{◌≤◌, ◌+◌, ◌-◌}
+use mathlib.Core.List.{append-nil}
+use Prim.Native.Nat.{◌+◌, ◌-◌}
 use native.Mathlib.Omega.{arith}
 use native.Mathlib.Nat.{add-zero}
 use lib.ListN.{take, length-set}
-use Rattle.sizing.specs.States.{up_from, SameSplits}
 use Rattle.sizing.proofs.StateLaws.{parts_next, up_none}
 use borrow.Author.Rules.{rules}
 use Rattle.sizing.proofs.paths.push_parts.Goals as goal

@@ -1,13 +1,9 @@
 -- The first i parts are pushed.
-use mathlib.Core.Path.{◌≡◌, refl, sym, ◌∙◌}
-use mathlib.Core.List.{◌++◌, append-nil}
+use mathlib.Core.Path.{◌≡◌}
+use mathlib.Core.List.{◌++◌}
 use Prim.Native.Nat.{◌≤◌, ◌+◌, ◌-◌}
-use native.Mathlib.Omega.{arith}
-use native.Mathlib.Nat.{add-zero}
-use lib.ListN.{take, length-set}
+use lib.ListN.{take}
 use Rattle.sizing.specs.States.{up_from, SameSplits}
-use Rattle.sizing.proofs.StateLaws.{parts_next, up_none}
-use borrow.Author.Rules.{rules}
 use Rattle.sizing.proofs.paths.push_parts.Given as goal
 
 abbrev pub invariant-loop-i : goal.invariant-loop-i

@@ -3,7 +3,6 @@ use mathlib.Core.Path.{refl, ap, ◌∙◌}
 use Rattle.rules.specs.declared.records.ConstructorRecord.{ConstructorRecord}
 use Rattle.rules.specs.Container.{payload}
 use Rattle.rules.specs.Records.{constructor_at}
-use borrow.Author.Rules.{rules}
 use Rattle.sizing.proofs.routines.build_maker.Goals as goal
 
 pub returns : goal.returns

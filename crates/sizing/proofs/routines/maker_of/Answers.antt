@@ -1,33 +1,26 @@
 -- A build and a call are read by their operand; nothing else makes an entry.
 use mathlib.Core.Path.{◌≡◌, refl}
-use mathlib.Core.List.{List, [], ◌∷◌}
+use mathlib.Core.List.{List}
 use mathlib.Core.Bool.{false}
-use mathlib.Core.Logic.{⊎_elim}
 use Prim.Native.Nat.{ℕ, ◌<◌}
 use native.Mathlib.Omega.{arith}
-use denote.Enum.Declared.{tag_of}
-use types.Run.{OneOf}
-use Rattle.rules.specs.contracts.records.Instruction.{the_type}
 use Rattle.rules.specs.declared.records.Instruction.{Instruction}
 use Rattle.rules.specs.declared.records.Instruction.TheVariants.{Load, Build, Call, Branch, Return, Stop}
 use Rattle.rules.specs.Base.{byte_at}
 use Rattle.rules.specs.Container.{payload}
 use Rattle.sizing.specs.declared.routines.Maker.{Maker}
 use Rattle.sizing.specs.Routines.{MakerIs}
-use borrow.Author.Rules.{rules}
 use Rattle.sizing.proofs.routines.maker_of.Goals.{After-wide-in-Call}
 use Rattle.sizing.proofs.routines.maker_of.Goals as goal
 
-no-maker : (bytes : List ℕ) (ins : Instruction) (m : Maker) → m.makes ≡ false → OneOf (0 ∷ 3 ∷ 4 ∷ 5 ∷ []) (tag_of the_type ins)
-    → MakerIs bytes ins m
-no-maker bytes (Load a) m e k = e
-no-maker bytes (Build c) m e k =
-    absurd (⊎_elim (λ z. omega arith) (λ r. ⊎_elim (λ z. omega arith) (λ q. ⊎_elim (λ z. omega arith) (λ z. omega arith) q) r) k)
-no-maker bytes (Call g) m e k =
-    absurd (⊎_elim (λ z. omega arith) (λ r. ⊎_elim (λ z. omega arith) (λ q. ⊎_elim (λ z. omega arith) (λ z. omega arith) q) r) k)
-no-maker bytes (Branch c b) m e k = e
-no-maker bytes Return m e k = e
-no-maker bytes Stop m e k = e
+no-maker : (bytes : List ℕ) (ins : Instruction) (m : Maker) → m.makes ≡ false → ((x : ℕ) → ins ≡ Build x → ⊥)
+    → ((x : ℕ) → ins ≡ Call x → ⊥) → MakerIs bytes ins m
+no-maker bytes (Load a) m e k h = e
+no-maker bytes (Build c) m e k h = absurd (k c refl)
+no-maker bytes (Call g) m e k h = absurd (h g refl)
+no-maker bytes (Branch c b) m e k h = e
+no-maker bytes Return m e k h = e
+no-maker bytes Stop m e k h = e
 
 ---- What is known at a place of the code
 -- the function that is called
@@ -42,12 +35,13 @@ build_maker-requires c =
     (c.requires.0.verified, rw c.wide.ensures.0 (c.requires.0.there.constructor _ h).0)
 
 pub bounds-heads-wide : goal.bounds-heads-wide
-bounds-heads-wide c = omega (arith, called c, c.requires.0.few)
+bounds-heads-wide c = omega (arith, called (goal.at.bounds-heads-wide c).After-wide-in-Call, c.requires.0.few)
 
 pub routine_at-f-requires : goal.routine_at-f-requires
 routine_at-f-requires c =
     let r = c.requires.0 in
-    (r.verified, rw (r.placed _ (called (goal.at.routine_at-f-requires c).After-way_told-1)) (r.there.function _ (called (goal.at.routine_at-f-requires c).After-way_told-1)))
+    let h = called (goal.at.routine_at-f-requires c).After-wide-in-Call in
+    (r.verified, rw (r.placed _ h) (r.there.function _ h))
 
 pub returns-in-Build : goal.returns-in-Build
 returns-in-Build c =
@@ -55,8 +49,8 @@ returns-in-Build c =
 
 pub returns-in-Call : goal.returns-in-Call
 returns-in-Call c =
-    let r = rw (c.requires.0.placed _ (called (goal.at.returns-in-Call c).After-way_told-1)) at c.routine_at-f.ensures in
+    let r = rw (c.requires.0.placed _ (called (goal.at.returns-in-Call c).After-wide-in-Call)) at c.routine_at-f.ensures in
     rw (c.in-Call.is, ← c.wide-in-Call.ensures.0) (record { makes = refl; arity = r.arity; bound = r.bound })
 
 pub returns-in_default : goal.returns-in_default
-returns-in_default c = no-maker (payload c.args.file.now) c.args.ins _ refl c.in_default.keys3
+returns-in_default c = no-maker (payload c.args.file.now) c.args.ins _ refl c.in_default.not-Build c.in_default.not-Call

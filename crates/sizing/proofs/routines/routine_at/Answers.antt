@@ -2,7 +2,6 @@
 use mathlib.Core.Path.{refl, ap, ◌∙◌}
 use Rattle.rules.specs.declared.records.HeadRecord.{HeadRecord}
 use Rattle.rules.specs.Records.{alternative_offset}
-use borrow.Author.Rules.{rules}
 use Rattle.sizing.proofs.routines.routine_at.Goals as goal
 
 pub returns : goal.returns

@@ -3,10 +3,9 @@ use mathlib.Core.Path.{◌≡◌, refl, sym, ap, ◌∙◌}
 use Prim.Native.Nat.{ℕ, ◌≤◌, ◌+◌, ◌-◌, ◌*◌}
 use native.Mathlib.Omega.{arith}
 use native.Mathlib.Nat.{sub-zero, add-zero, mul-le-mul, le_trans}
-use Rattle.rules.specs.Forms.{added}
 use Rattle.rules.specs.Records.{program_in}
-use Rattle.sizing.specs.Put.{coefficient, cleared, put, Wide}
-use Rattle.sizing.specs.Splits.{spanned, split_a}
+use Rattle.sizing.specs.Put.{coefficient, put}
+use Rattle.sizing.specs.Splits.{split_a}
 use Rattle.sizing.proofs.PutLaws.{cleared_wide, cleared_below, put_absent}
 use Rattle.sizing.proofs.SplitLaws.{split_wide}
 use Rattle.sizing.proofs.CodeLaws.{bumped_wide, bumped_other, spanned_step, spanned_end}

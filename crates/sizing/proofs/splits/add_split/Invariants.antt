@@ -1,16 +1,9 @@
 -- What is left of the parts to add; or the variable is not there, and nothing changes.
-use mathlib.Core.Path.{◌≡◌, refl, sym, ap, ◌∙◌}
-use Prim.Native.Nat.{ℕ, ◌≤◌, ◌+◌, ◌-◌, ◌*◌}
-use native.Mathlib.Omega.{arith}
-use native.Mathlib.Nat.{sub-zero, add-zero, mul-le-mul, le_trans}
+use mathlib.Core.Path.{◌≡◌}
+use Prim.Native.Nat.{ℕ, ◌≤◌, ◌+◌, ◌-◌}
 use Rattle.rules.specs.Forms.{added}
-use Rattle.rules.specs.Records.{program_in}
-use Rattle.sizing.specs.Put.{coefficient, cleared, put, Wide}
-use Rattle.sizing.specs.Splits.{spanned, split_a}
-use Rattle.sizing.proofs.PutLaws.{cleared_wide, cleared_below, put_absent}
-use Rattle.sizing.proofs.SplitLaws.{split_wide}
-use Rattle.sizing.proofs.CodeLaws.{bumped_wide, bumped_other, spanned_step, spanned_end}
-use borrow.Author.Rules.{rules}
+use Rattle.sizing.specs.Put.{coefficient, cleared, Wide}
+use Rattle.sizing.specs.Splits.{spanned}
 use Rattle.sizing.proofs.splits.add_split.Given as goal
 
 abbrev pub invariant-loop-j : goal.invariant-loop-j

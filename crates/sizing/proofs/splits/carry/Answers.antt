@@ -1,11 +1,11 @@
 -- What is left of the splits.
 use mathlib.Core.Path.{◌≡◌, refl, sym, ap, ◌∙◌}
-use Prim.Native.Nat.{ℕ, ◌≤◌, ◌+◌, ◌-◌, ◌*◌}
+use Prim.Native.Nat.{◌+◌}
 use native.Mathlib.Omega.{arith}
 use lib.ListN.{length, take, drop}
 use lib.Seq.{length-take-le}
 use Rattle.rules.specs.Records.{program_in}
-use Rattle.sizing.specs.Splits.{carried, Loose, Numbered, Carrying}
+use Rattle.sizing.specs.Splits.{carried}
 use Rattle.sizing.proofs.CodeLaws.{carried_end, carrying_asks, carrying_next, carrying_left}
 use borrow.Author.Rules.{rules}
 use Rattle.sizing.proofs.splits.carry.Goals as goal

@@ -5,7 +5,6 @@ use Rattle.rules.specs.declared.records.ConstructorRecord.{ConstructorRecord}
 use Rattle.rules.specs.Base.{byte_at}
 use Rattle.rules.specs.Container.{payload}
 use Rattle.rules.specs.Records.{constructor_offset}
-use borrow.Author.Rules.{rules}
 use Rattle.sizing.proofs.splits.weight_of.Goals as goal
 
 pub returns : goal.returns

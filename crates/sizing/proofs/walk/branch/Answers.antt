@@ -4,7 +4,6 @@ use native.Mathlib.Omega.{arith}
 use Rattle.rules.specs.Container.{payload}
 use Rattle.rules.specs.Records.{declaration_at, constructor_offset}
 use Rattle.sizing.proofs.MoveLaws.{move_constructor, move_short, move_branch_asks, said_branch_large, said_branch}
-use borrow.Author.Rules.{rules}
 use Rattle.sizing.proofs.walk.branch.Goals.{After-constructor_declaration-d}
 use Rattle.sizing.proofs.walk.branch.Goals as goal
 

@@ -1,6 +1,5 @@
 -- What `straight_line` says, as a step.
 use Rattle.sizing.proofs.MoveLaws.{line_move_asks, said_line_end, said_line_refused}
-use borrow.Author.Rules.{rules}
 use Rattle.sizing.proofs.walk.line_move.Goals as goal
 
 pub straight_line-line-requires : goal.straight_line-line-requires

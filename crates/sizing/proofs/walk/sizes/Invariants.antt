@@ -1,14 +1,10 @@
 -- The loop keeps that what is left of the pass is the functions from g on.
-use mathlib.Core.Path.{sym, ◌∙◌}
 use Prim.Native.Nat.{◌-◌}
-use native.Mathlib.Omega.{arith}
 use Rattle.rules.specs.Container.{payload}
 use Rattle.rules.specs.Records.{program_in}
-use Rattle.rules.specs.Shapes.{sizes_of, sizes_right}
-use Rattle.rules.proofs.PassLaws.{Passing, pass_first, pass_stop, pass_next, pass_end, told_as}
-use Rattle.program.proofs.LayoutLaws.{at_function, functions_few, functions_pass}
-use Rattle.sizing.proofs.SizesLaws.{sizes_asks}
-use borrow.Author.Rules.{rules}
+use Rattle.rules.specs.Shapes.{sizes_of}
+use Rattle.rules.proofs.PassLaws.{Passing}
+use Rattle.program.proofs.LayoutLaws.{at_function}
 use Rattle.sizing.proofs.walk.sizes.Given as goal
 
 abbrev pub invariant-loop-g : goal.invariant-loop-g

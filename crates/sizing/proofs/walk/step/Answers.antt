@@ -1,48 +1,42 @@
 -- One law for each way through: nothing arrives, or one of the six instructions.
 use mathlib.Core.Path.{◌≡◌, refl, ap}
-use mathlib.Core.List.{List, [], ◌∷◌}
-use mathlib.Core.Logic.{⊎_elim}
+use mathlib.Core.List.{List}
+use mathlib.Core.Logic.{◌⊎◌, ⊎_elim}
 use Prim.Native.Nat.{ℕ, ◌+◌, ◌-◌, ◌≤◌}
 use native.Mathlib.Omega.{arith}
 use lib.ListN.{length}
 use borrow.Author.Tests.{not-true, not-false}
-use denote.Enum.Declared.{tag_of}
-use types.Run.{OneOf}
 use Rattle.rules.specs.Container.{payload}
 use Rattle.rules.specs.Records.{function_in, instruction_offset}
-use Rattle.rules.specs.contracts.records.Instruction.{the_type}
 use Rattle.rules.specs.declared.records.Instruction.{Instruction}
-use Rattle.rules.specs.declared.records.Instruction.TheVariants.{Load, Build, Call, Branch, Return, Stop}
+use Rattle.rules.specs.declared.records.Instruction.TheVariants.{Build, Call}
 use Rattle.rules.specs.Shapes.{shape_from}
 use Rattle.sizing.specs.declared.paths.Saved.{Saved}
 use Rattle.sizing.specs.Walking.{Makes}
-use Rattle.sizing.specs.Moves.{MoveAsks}
+use Rattle.sizing.specs.declared.routines.Routine.{Routine}
+use Rattle.sizing.specs.Moves.{MoveAsks, StepAsks}
 use Rattle.sizing.proofs.FileLaws.{here}
 use Rattle.sizing.proofs.ReachLaws.{at_place, at_instruction}
 use Rattle.sizing.proofs.MoveLaws.{said_skipped, said_end, move_load_asks, said_load}
-use borrow.Author.Rules.{rules}
-use Rattle.sizing.proofs.walk.step.Goals.{After-shared_slice_known-1, Else-not-st, After-instruction-ins}
+use Rattle.sizing.proofs.walk.step.Goals.{Else-not-st, After-instruction-ins}
 use Rattle.sizing.proofs.walk.step.Goals as goal
 
 ---- What is known at a place of the code
-short : (c : After-shared_slice_known-1) → c.args.i ≤ 256
-short c =
-    let p = c.requires in
-    omega (arith, p.last, p.routine.last, (here p.function.walking c.args.g p.function.there).short_code)
+short : {file heads : List ℕ} {g i : ℕ} {f : Routine} {st : Saved} → StepAsks file heads g f i st → i ≤ 256
+short {g = g} p = omega (arith, p.last, p.routine.last, (here p.function.walking g p.function.there).short_code)
 
 place : (c : Else-not-st) → (1 ≤ c.args.i) × (c.args.i ≤ length (function_in c.args.file.now c.args.g).code) × (c.args.i ≤ 256)
     × (instruction_offset c.args.f.base (c.args.i - 1) + 4 ≤ length (payload c.args.file.now))
 place c =
     let p = c.requires in
-    at_place p.function.walking p.function.there (p.fit (c.if-not-st.false)).at c.args.f.base p.routine.base
+    at_place p.function.walking p.function.there (p.fit (not-false _ c.if-not-st.false)).at c.args.f.base p.routine.base
 
 -- the instruction that is read, where a state arrives
-move : (c : After-instruction-ins) → let s =
-    (?Start) in
-    MoveAsks s.args.file.now s.args.heads.now s.args.g s.args.i s.args.st c.instruction-ins.result
+move : (c : After-instruction-ins)
+    → MoveAsks c.args.file.now c.args.heads.now c.args.g c.args.i c.args.st c.instruction-ins.result
 move c =
     let p = c.requires in
-    let v = c.if-not-st.false in
+    let v = not-false _ c.if-not-st.false in
     record {
       function = p.function;
       visited = v;
@@ -56,20 +50,15 @@ as_is : {file heads : List ℕ} {g i : ℕ} {st : Saved} {x y : Instruction} →
     → MoveAsks file heads g i st y
 as_is m e = rw e at m
 
--- the tag of a build or a call
-makes-entry : (ins : Instruction) → OneOf (1 ∷ 2 ∷ []) (tag_of the_type ins) → Makes ins
-makes-entry (Load a) k = ⊎_elim (λ z. omega arith) (λ z. omega arith) k
-makes-entry (Build c) k = tt
-makes-entry (Call g) k = tt
-makes-entry (Branch c b) k = ⊎_elim (λ z. omega arith) (λ z. omega arith) k
-makes-entry Return k = ⊎_elim (λ z. omega arith) (λ z. omega arith) k
-makes-entry Stop k = ⊎_elim (λ z. omega arith) (λ z. omega arith) k
+-- a build or a call makes an entry
+makes-entry : (ins : Instruction) → ((x : ℕ) × (ins ≡ Build x)) ⊎ ((x : ℕ) × (ins ≡ Call x)) → Makes ins
+makes-entry ins h = ⊎_elim (λ k. rw k.1 tt) (λ k. rw k.1 tt) h
 
 pub overflow_add-i : goal.overflow_add-i
-overflow_add-i c = omega (arith, short (goal.at.overflow_add-i c).After-shared_slice_known-1)
+overflow_add-i c = omega (arith, short c.requires)
 
 pub returns-then-not-st : goal.returns-then-not-st
-returns-then-not-st c = said_skipped c.requires (c.if-not-st.true) c.stay.ensures
+returns-then-not-st c = said_skipped c.requires (not-true _ c.if-not-st.true) c.stay.ensures
 
 pub overflow_sub-i : goal.overflow_sub-i
 overflow_sub-i c = omega (arith, c.requires.some_i)
@@ -101,17 +90,17 @@ load_variable-requires c =
     (q.2, omega (arith, q.0, q.1, c.wide.ensures.0), (move (goal.at.load_variable-requires c).After-instruction-ins).fit.right.long)
 
 pub overflow_add-result : goal.overflow_add-result
-overflow_add-result c = omega (arith, short (goal.at.overflow_add-result c).After-shared_slice_known-1)
+overflow_add-result c = omega (arith, short c.requires)
 
 pub overflow_add-result-in-Load : goal.overflow_add-result-in-Load
-overflow_add-result-in-Load c = omega (arith, short (goal.at.overflow_add-result-in-Load c).After-shared_slice_known-1)
+overflow_add-result-in-Load c = omega (arith, short c.requires)
 
 pub line_move-requires : goal.line_move-requires
 line_move-requires c =
     record {
       ins = c.instruction-ins.result;
       move = move (goal.at.line_move-requires c).After-instruction-ins;
-      makes = makes-entry c.instruction-ins.result c.in-Build.keys2;
+      makes = makes-entry c.instruction-ins.result c.in-Build.is;
       routine = c.requires.routine;
     }
 
@@ -119,10 +108,10 @@ pub branch-file-requires : goal.branch-file-requires
 branch-file-requires c = (_, as_is (move (goal.at.branch-file-requires c).After-instruction-ins) c.in-Branch.is)
 
 pub overflow_add-i-in-Return : goal.overflow_add-i-in-Return
-overflow_add-i-in-Return c = omega (arith, short (goal.at.overflow_add-i-in-Return c).After-shared_slice_known-1)
+overflow_add-i-in-Return c = omega (arith, short c.requires)
 
 pub overflow_add-i-in-Stop : goal.overflow_add-i-in-Stop
-overflow_add-i-in-Stop c = omega (arith, short (goal.at.overflow_add-i-in-Stop c).After-shared_slice_known-1)
+overflow_add-i-in-Stop c = omega (arith, short c.requires)
 
 pub returns-in-Load : goal.returns-in-Load
 returns-in-Load c =
