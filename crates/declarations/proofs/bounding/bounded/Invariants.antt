@@ -1,12 +1,9 @@
 -- `bounded` meets its contract: at each turn what is left to check is the functions from `g` on.
-use mathlib.Core.Path.{sym, ◌∙◌}
 use Prim.Native.Nat.{◌-◌}
-use native.Mathlib.Omega.{arith}
 use Rattle.rules.specs.Container.{payload}
-use Rattle.rules.specs.Declarations.{bound_rule, bounds_right}
-use Rattle.rules.proofs.PassLaws.{Passing, pass_first, pass_stop, pass_next, pass_end, told_as}
-use Rattle.program.proofs.LayoutLaws.{at_function, functions_few, function_placed, functions_pass, function_here}
-use borrow.Author.Rules.{rules}
+use Rattle.rules.specs.Declarations.{bound_rule}
+use Rattle.rules.proofs.PassLaws.{Passing}
+use Rattle.program.proofs.LayoutLaws.{at_function}
 use Rattle.declarations.proofs.bounding.bounded.Given as goal
 
 abbrev pub invariant-loop-g : goal.invariant-loop-g

@@ -1,10 +1,8 @@
 -- `bounded_arguments` meets its contract: at each turn an argument was found, or is still to be found in the alternatives from `k` on.
 use mathlib.Core.Path.{refl, ap, ◌∙◌}
-use Prim.Native.Nat.{◌-◌}
 use Rattle.rules.specs.Container.{payload}
 use Rattle.rules.specs.Records.{alternative_at}
-use Rattle.declarations.proofs.BoundLaws.{each_of_four, Finding, find_first, find_next, find_end}
-use borrow.Author.Rules.{rules}
+use Rattle.declarations.proofs.BoundLaws.{each_of_four, find_first, find_next, find_end}
 use Rattle.declarations.proofs.bounding.bounded_arguments.Goals as goal
 
 pub loop-k-init : goal.loop-k-init

@@ -1,10 +1,7 @@
 -- `bounded_arguments` meets its contract: at each turn an argument was found, or is still to be found in the alternatives from `k` on.
-use mathlib.Core.Path.{refl, ap, ◌∙◌}
 use Prim.Native.Nat.{◌-◌}
 use Rattle.rules.specs.Container.{payload}
-use Rattle.rules.specs.Records.{alternative_at}
-use Rattle.declarations.proofs.BoundLaws.{each_of_four, Finding, find_first, find_next, find_end}
-use borrow.Author.Rules.{rules}
+use Rattle.declarations.proofs.BoundLaws.{Finding}
 use Rattle.declarations.proofs.bounding.bounded_arguments.Given as goal
 
 abbrev pub invariant-loop-k : goal.invariant-loop-k

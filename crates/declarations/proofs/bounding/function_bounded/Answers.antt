@@ -1,14 +1,12 @@
 -- `function_bounded` meets its contract: at each turn what is left to check is the arguments from `k` on.
 use mathlib.Core.Path.{sym, ◌∙◌}
 use mathlib.Core.Bool.{false}
-use Prim.Native.Nat.{◌+◌, ◌-◌}
+use Prim.Native.Nat.{◌+◌}
 use native.Mathlib.Omega.{arith}
 use lib.ListN.{get_or}
 use Rattle.rules.specs.Base.{refusal}
-use Rattle.rules.specs.Container.{payload}
-use Rattle.rules.proofs.PassLaws.{Passing, pass_first, pass_stop, pass_next, pass_end, test_fails, test_holds}
-use Rattle.declarations.proofs.BoundLaws.{argument_check, bound_pass, argument_says, arity_few, alternatives_fit}
-use borrow.Author.Rules.{rules}
+use Rattle.rules.proofs.PassLaws.{pass_first, pass_stop, pass_next, pass_end, test_fails, test_holds}
+use Rattle.declarations.proofs.BoundLaws.{bound_pass, argument_says, arity_few, alternatives_fit}
 use mathlib.Core.Path.{ap}
 use mathlib.Core.Bool.{not}
 use Rattle.declarations.proofs.bounding.function_bounded.Goals as goal

@@ -1,7 +1,6 @@
 -- `joined` meets its contract: it says so of each of the four.
 use mathlib.Core.Path.{refl}
 use Rattle.declarations.proofs.BoundLaws.{each_of_four}
-use borrow.Author.Rules.{rules}
 use Rattle.declarations.proofs.bounding.joined.Goals as goal
 
 pub returns : goal.returns

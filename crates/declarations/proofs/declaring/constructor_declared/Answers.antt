@@ -1,5 +1,4 @@
 -- `constructor_declared` meets its contract: it is the definition, test by test.
-use borrow.Author.Rules.{rules}
 use Rattle.declarations.proofs.declaring.constructor_declared.Goals as goal
 
 pub returns : goal.returns

@@ -1,15 +1,13 @@
 -- `constructors_declared` meets its contract: at each turn what is left to check is the constructors from `k` on.
 use mathlib.Core.Path.{sym, ap, ◌∙◌, subst}
-use Prim.Native.Nat.{◌-◌, ◌≤◌}
+use Prim.Native.Nat.{◌≤◌}
 use Rattle.rules.specs.declared.records.ConstructorRecord.{ConstructorRecord}
 use Rattle.rules.specs.Base.{refusal}
 use Rattle.rules.specs.Container.{payload}
-use Rattle.rules.specs.Declarations.{constructor_rule}
-use Rattle.rules.specs.Records.{constructor_at, program_in}
-use Rattle.rules.proofs.PassLaws.{Passing, pass_first, pass_stop, pass_next, pass_end, test_fails, test_holds}
-use Rattle.program.proofs.LayoutLaws.{at_constructor, constructor_there, constructors_pass}
+use Rattle.rules.specs.Records.{constructor_at}
+use Rattle.rules.proofs.PassLaws.{pass_first, pass_stop, pass_next, pass_end, test_fails, test_holds}
+use Rattle.program.proofs.LayoutLaws.{constructor_there, constructors_pass}
 use Rattle.declarations.proofs.DeclareLaws.{constructor_says}
-use borrow.Author.Rules.{rules}
 use mathlib.Core.Bool.{not}
 use Rattle.declarations.proofs.declaring.constructors_declared.Goals as goal
 

@@ -2,7 +2,6 @@
 use mathlib.Core.Path.{refl, sym, ◌∙◌}
 use Rattle.rules.proofs.PassLaws.{told_as}
 use Rattle.declarations.proofs.DeclareLaws.{declarations_by}
-use borrow.Author.Rules.{rules}
 use Rattle.declarations.proofs.declaring.declared.Goals as goal
 
 pub returns-in-Refused : goal.returns-in-Refused

@@ -1,14 +1,8 @@
 -- `types_below` meets its contract: after the result type, at each turn what is left to test is the argument types from `k` on.
-use mathlib.Core.Path.{◌≡◌, refl, ◌∙◌}
+use mathlib.Core.Path.{◌≡◌}
 use Prim.Native.Nat.{◌-◌, ◌≤◌}
-use native.Mathlib.Omega.{arith}
-use lib.ListN.{length, take, drop}
-use lib.Dec.{ltb}
-use borrow.Author.Tests.{lt-ltb, le-ltb}
+use lib.ListN.{take, drop}
 use Rattle.rules.specs.Declarations.{all_below}
-use Rattle.rules.proofs.AllLaws.{first_stop, first_go, first_end}
-use Rattle.declarations.proofs.DeclareLaws.{below_all}
-use borrow.Author.Rules.{rules}
 use Rattle.declarations.proofs.declaring.types_below.Given as goal
 
 abbrev pub invariant-loop-k : goal.invariant-loop-k

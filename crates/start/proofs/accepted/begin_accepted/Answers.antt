@@ -18,7 +18,10 @@ bounds-heads-entry c =
 
 pub check_arguments-right-requires : goal.check_arguments-right-requires
 check_arguments-right-requires c =
-    (c.requires.1.headed.parsed, head_there c.requires.1 (omega (arith, c.if-entry-wide.false, c.wide.ensures.0)) refl)
+    record {
+      parsed = c.requires.1.headed.parsed;
+      head_there = head_there c.requires.1 (omega (arith, c.if-entry-wide.false, c.wide.ensures.0)) refl;
+    }
 
 pub returns-in-Refused : goal.returns-in-Refused
 returns-in-Refused c =
@@ -27,10 +30,9 @@ returns-in-Refused c =
     c.in-Refused.is)
 
 pub begin_called-requires : goal.begin_called-requires
-begin_called-requires c =
-    (
-      callable c.requires.0 c.requires.1
-          (omega (arith, c.if-entry-wide.false, c.wide.ensures.0)) refl c.check_arguments-right.ensures
-          c.index_of-index.ensures c.in_default.is,
-      c.requires.2,
-    )
+begin_called-requires c = (
+  callable c.requires.0 c.requires.1
+      (omega (arith, c.if-entry-wide.false, c.wide.ensures.0)) refl c.check_arguments-right.ensures
+      c.index_of-index.ensures c.in_default.is,
+  c.requires.2,
+)

@@ -57,7 +57,7 @@ load-start-requires c =
     let room = leb-true _ _ (sym c.enough.ensures ∙ c.if-not-enough.false) in
     let fits = fitting k _ _ _ _ c.requires.1 c.usable-m.ensures c.function_arity-arity.ensures
     (omega (arith, c.if-m-eq0.false)) (omega (arith, c.if-m-arity.false)) room in
-    (loading (fits_some fits), few_functions k)
+    record { loading = loading (fits_some fits); bound = few_functions k }
 
 pub returns : goal.returns
 returns c =
@@ -66,4 +66,4 @@ returns c =
     let fits = fitting k _ _ _ _ c.requires.1 c.usable-m.ensures c.function_arity-arity.ensures
     (omega (arith, c.if-m-eq0.false)) (omega (arith, c.if-m-arity.false)) room in
     let small = bytes_all_lem c.args.file.now (λ i. omega (arith, c.type_inv.file i)) in
-    begun_prepares c.begun.ensures small fits c.load-start.ensures.1 c.load-start.ensures.0
+    begun_prepares c.begun.ensures small fits c.load-start.ensures.loaded c.load-start.ensures.value

@@ -11,10 +11,10 @@ pub copy-requires : goal.copy-requires
 copy-requires c =
     let l = c.requires.loading in
     let e = pending_end l c.make_arguments-pending.ensures in
-    (omega (arith, slice-aggregate-copy (goal.at.copy-requires c).After-numbers-2-1), omega (arith, l.slots), l.few)
+    (omega arith, omega (arith, l.slots), l.few)
 
 pub returns : goal.returns
 returns c =
     let made = c.make_arguments-pending.ensures in
     let l = c.requires.loading in
-    (rw (c.code_at-code.ensures, made.taken), loaded l made c.copy.ensures)
+    record { value = rw (c.code_at-code.ensures, made.taken); loaded = loaded l made c.copy.ensures }
