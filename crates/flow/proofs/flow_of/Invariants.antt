@@ -1,10 +1,7 @@
 -- The loop keeps that each slot holds what has arrived there so far, and that the rules of the first k instructions have passed.
-use Prim.Native.Nat.{◌-◌, ◌≤◌}
-use native.Mathlib.Omega.{arith}
-use borrow.Author.Rules.{rules}
+use Prim.Native.Nat.{◌-◌}
 use Rattle.rules.specs.Container.{payload}
-use Rattle.program.proofs.CodeLaws.{code_there, code_short, code_here_lem, code_read, base_small}
-use Rattle.flow.proofs.FlowLaws.{FlowOn, flow_start, flow_wrong, flow_next, flow_end, flow_room}
+use Rattle.flow.proofs.FlowLaws.{FlowOn}
 use Rattle.flow.proofs.flow_of.Given as goal
 
 abbrev pub invariant-loop-k : goal.invariant-loop-k

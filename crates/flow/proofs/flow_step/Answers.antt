@@ -1,6 +1,5 @@
 -- Where just one path arrives, each arm is the rule of its instruction.
 use native.Mathlib.Omega.{arith}
-use borrow.Author.Rules.{rules}
 use Rattle.flow.proofs.FlowLaws.{step_wrong, step_one, one_load, one_build, one_call, one_branch, one_return, one_stop}
 use Rattle.flow.proofs.flow_step.Goals as goal
 

@@ -1,12 +1,9 @@
 -- The loop keeps that what is left of the pass is the functions from g on.
-use mathlib.Core.Path.{sym, ◌∙◌}
 use Prim.Native.Nat.{◌-◌}
-use native.Mathlib.Omega.{arith}
-use borrow.Author.Rules.{rules}
 use Rattle.rules.specs.Container.{payload}
-use Rattle.rules.specs.Flow.{flow_of, flow_right}
-use Rattle.program.proofs.LayoutLaws.{at_function, functions_few, functions_pass, function_placed, function_here}
-use Rattle.rules.proofs.PassLaws.{Passing, pass_first, pass_stop, pass_next, pass_end, told_as}
+use Rattle.rules.specs.Flow.{flow_of}
+use Rattle.program.proofs.LayoutLaws.{at_function}
+use Rattle.rules.proofs.PassLaws.{Passing}
 use Rattle.flow.proofs.flows.Given as goal
 
 abbrev pub invariant-loop-g : goal.invariant-loop-g

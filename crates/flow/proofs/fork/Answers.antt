@@ -1,5 +1,4 @@
 -- Each test is one part of the rule of a branch, and the last return is where all hold.
-use borrow.Author.Rules.{rules}
 use Rattle.flow.proofs.FlowLaws.{fork_early, fork_late, fork_past, fork_goes}
 use Rattle.flow.proofs.fork.Goals as goal
 

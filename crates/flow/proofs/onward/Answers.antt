@@ -1,5 +1,4 @@
 -- There is an instruction after this one just where the test says so.
-use borrow.Author.Rules.{rules}
 use Rattle.flow.proofs.FlowLaws.{onward_ends, onward_goes}
 use Rattle.flow.proofs.onward.Goals as goal
 

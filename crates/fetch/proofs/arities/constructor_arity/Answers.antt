@@ -5,7 +5,6 @@ use native.Mathlib.Omega.{arith}
 use Rattle.rules.specs.Container.{place_of}
 use Rattle.rules.specs.Records.{constructor_offset}
 use Rattle.fetch.proofs.IndexLaws.{arity_stands, constructor_small}
-use borrow.Author.Rules.{rules}
 use Rattle.fetch.proofs.arities.constructor_arity.Goals.{Start}
 use Rattle.fetch.proofs.arities.constructor_arity.Goals as goal
 

@@ -1,7 +1,6 @@
 -- The index has the place of the arity.
 use mathlib.Core.Path.{◌∙◌}
 use Rattle.fetch.proofs.IndexLaws.{function_small, inputs_stand}
-use borrow.Author.Rules.{rules}
 use Rattle.fetch.proofs.arities.function_arity.Goals as goal
 
 pub arity_at-at-requires : goal.arity_at-at-requires

@@ -1,5 +1,4 @@
 -- `apart` meets its contract: the four bytes are the record's.
-use borrow.Author.Rules.{rules}
 use Rattle.fetch.proofs.WordLaws.{word_there}
 use Rattle.fetch.proofs.fetching.apart.Goals as goal
 

@@ -1,5 +1,4 @@
 -- `fetch` meets its contract: up to place 504 a record lies in its block.
-use borrow.Author.Rules.{rules}
 use native.Mathlib.Omega.{arith}
 use Rattle.fetch.proofs.PlaceLaws.{place_small, behind_near, behind_over}
 use Rattle.fetch.proofs.WordLaws.{block_room, block_word}

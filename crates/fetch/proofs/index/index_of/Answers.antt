@@ -1,9 +1,8 @@
 -- At each turn the functions below `f` are indexed.
-use Prim.Native.Nat.{◌-◌, ◌≤◌, ◌<◌}
+use Prim.Native.Nat.{◌<◌}
 use mathlib.Core.Path.{refl}
 use native.Mathlib.Omega.{arith}
 use Rattle.program.proofs.LayoutLaws.{functions_few}
-use Rattle.fetch.specs.Indexing.{Functioned}
 use Rattle.fetch.proofs.IndexingLaws.{functioned_first, functioned_on, head_there, indexed}
 use borrow.Author.Rules.{rules}
 use Rattle.fetch.proofs.index.index_of.Goals.{In-loop-f}

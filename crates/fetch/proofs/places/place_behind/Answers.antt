@@ -1,6 +1,5 @@
 -- `place_behind` meets its contract: in the same block places are as far apart as offsets, and each block between adds eight.
 use native.Mathlib.Omega.{arith}
-use borrow.Author.Rules.{rules}
 use Rattle.fetch.proofs.PlaceLaws.{behind_near, behind_far}
 use Rattle.fetch.proofs.places.place_behind.Goals as goal
 

@@ -3,7 +3,6 @@ use mathlib.Core.Path.{refl}
 use borrow.Author.Tests.{not-true, not-false}
 use Rattle.operands.specs.Operands.{stack_of, branched_to}
 use Rattle.operands.proofs.NamedLaws.{rule_missing, rule_found}
-use borrow.Author.Rules.{rules}
 use Rattle.operands.proofs.named.branch.Goals as goal
 
 pub returns-then-not-l : goal.returns-then-not-l

@@ -1,5 +1,4 @@
 -- What is below the arguments is known, and the result goes on top of it.
-use borrow.Author.Rules.{rules}
 use Rattle.operands.proofs.OperationLaws.{apply_wrong, apply_goes}
 use Rattle.operands.proofs.operation.apply.Goals as goal
 

@@ -1,5 +1,4 @@
 -- The stack ends in the result just where nothing is wrong.
-use borrow.Author.Rules.{rules}
 use Rattle.operands.proofs.OperationLaws.{return_says}
 use Rattle.operands.proofs.operation.finish.Goals as goal
 

@@ -1,7 +1,6 @@
 -- A slot from 1 to the height is there, and no other.
 use mathlib.Core.Path.{sym, ◌∙◌}
 use native.Mathlib.Omega.{arith}
-use borrow.Author.Rules.{rules}
 use Rattle.operands.specs.Operands.{stack_of}
 use Rattle.operands.proofs.OperationLaws.{load_none, load_past, load_goes}
 use Rattle.operands.proofs.operation.load.Goals as goal

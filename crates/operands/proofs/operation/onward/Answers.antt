@@ -1,5 +1,4 @@
 -- There is room for one type more just where the test says so.
-use borrow.Author.Rules.{rules}
 use Rattle.operands.proofs.OperationLaws.{onward_full, onward_goes}
 use Rattle.operands.proofs.operation.onward.Goals as goal
 

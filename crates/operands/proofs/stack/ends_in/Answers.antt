@@ -1,10 +1,9 @@
 -- The loop keeps that the answer is that of the types from j on.
 use mathlib.Core.Path.{◌≡◌}
-use Prim.Native.Nat.{◌-◌}
 use native.Mathlib.Omega.{arith}
 use lib.ListN.{length}
 use borrow.Author.Rules.{rules}
-use Rattle.operands.proofs.StackLaws.{EndsFrom, ending_short, ending_start, ending_stop, ending_next, ending_end}
+use Rattle.operands.proofs.StackLaws.{ending_short, ending_start, ending_stop, ending_next, ending_end}
 use Rattle.operands.proofs.stack.ends_in.Goals as goal
 
 pub returns-then-h-k : goal.returns-then-h-k

@@ -1,10 +1,6 @@
 -- The loop keeps that the answer is that of the types from j on.
-use mathlib.Core.Path.{◌≡◌}
 use Prim.Native.Nat.{◌-◌}
-use native.Mathlib.Omega.{arith}
-use lib.ListN.{length}
-use borrow.Author.Rules.{rules}
-use Rattle.operands.proofs.StackLaws.{EndsFrom, ending_short, ending_start, ending_stop, ending_next, ending_end}
+use Rattle.operands.proofs.StackLaws.{EndsFrom}
 use Rattle.operands.proofs.stack.ends_in.Given as goal
 
 abbrev pub invariant-loop-j : goal.invariant-loop-j

@@ -1,10 +1,9 @@
 -- The loop keeps that the first k of the types stand on top.
 use mathlib.Core.Path.{◌≡◌, refl}
-use Prim.Native.Nat.{◌-◌}
 use native.Mathlib.Omega.{arith}
 use lib.ListN.{length}
 use borrow.Author.Rules.{rules}
-use Rattle.operands.proofs.StackLaws.{Pushing, pushing_start, pushing_next, pushing_end}
+use Rattle.operands.proofs.StackLaws.{pushing_start, pushing_next, pushing_end}
 use Rattle.operands.proofs.stack.push_arguments.Goals as goal
 
 pub loop-k-init : goal.loop-k-init

@@ -2,7 +2,6 @@
 use native.Mathlib.Omega.{arith}
 use Rattle.program.proofs.LayoutLaws.{constructor_there}
 use Rattle.typing.proofs.SignatureLaws.{constructor_missing, constructor_found_lem}
-use borrow.Author.Rules.{rules}
 use Rattle.typing.proofs.signature.constructor_signature.Goals as goal
 
 pub returns-then-c-header : goal.returns-then-c-header

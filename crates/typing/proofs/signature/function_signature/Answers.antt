@@ -2,7 +2,6 @@
 use native.Mathlib.Omega.{arith}
 use Rattle.program.proofs.LayoutLaws.{functions_few, function_placed}
 use Rattle.typing.proofs.SignatureLaws.{function_missing, function_found}
-use borrow.Author.Rules.{rules}
 use Rattle.typing.proofs.signature.function_signature.Goals as goal
 
 pub returns-then-g-header : goal.returns-then-g-header

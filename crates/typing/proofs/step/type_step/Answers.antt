@@ -1,5 +1,4 @@
 -- Each arm is the rule of its operation.
-use borrow.Author.Rules.{rules}
 use Rattle.operands.proofs.OperationLaws.{stop_says}
 use Rattle.typing.proofs.TypeWalk.{aims_branch}
 use Rattle.typing.proofs.SignatureLaws.{build_rule, call_rule, branch_rule}
