@@ -2,7 +2,6 @@
 use native.Mathlib.Omega.{arith}
 use Rattle.delivery.proofs.FinishLaws.{result_place, result_readable, result_short, says_result, stops_within, delivers_stop}
 use Rattle.delivery.proofs.FinishLaws.{numbered, is_short, delivers_short_run}
-use borrow.Author.Rules.{rules}
 use Rattle.delivery.proofs.deliver.Goals as goal
 
 pub overflow_sub-last : goal.overflow_sub-last
@@ -19,7 +18,7 @@ pub deliver_result-requires : goal.deliver_result-requires
 deliver_result-requires c =
     let (_, _, _, _, e) = c.requires in
     let w = c.if-r-eq-RESULT.true in
-    rw c.wide16.ensures.0 (result_readable e w, result_short e w)
+    rw c.wide16.ensures.0 (record { readable = result_readable e w; k_len_bound = result_short e w })
 
 pub returns-then-r-eq-RESULT : goal.returns-then-r-eq-RESULT
 returns-then-r-eq-RESULT c m says i ws e =

@@ -1,7 +1,6 @@
 -- `deliver_result` meets its contract: the result is written just where it fits.
 use native.Mathlib.Omega.{arith}
 use Rattle.delivery.proofs.FinishLaws.{delivers_result, delivers_short}
-use borrow.Author.Rules.{rules}
 use Rattle.delivery.proofs.deliver_result.Goals as goal
 
 pub returns-then-out-needed : goal.returns-then-out-needed

@@ -1,4 +1,3 @@
-use borrow.Author.Rules.{rules}
 use Rattle.delivery.proofs.finish.Goals as goal
 
 pub returns : goal.returns

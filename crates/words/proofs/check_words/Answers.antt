@@ -3,7 +3,6 @@ use native.Mathlib.Omega.{arith}
 use lib.ListN.{take}
 use Rattle.rules.specs.declared.answers.Verdict.{Verdict}
 use Rattle.rules.specs.Answers.{told, check_words}
-use borrow.Author.Rules.{rules}
 use Rattle.words.proofs.check_words.Goals as goal
 
 pub returns-in-Accepted : goal.returns-in-Accepted

@@ -3,7 +3,6 @@ use native.Mathlib.Omega.{arith}
 use lib.ListN.{take}
 use Rattle.rules.specs.declared.answers.Length.{Length}
 use Rattle.rules.specs.Answers.{told_length, length_words}
-use borrow.Author.Rules.{rules}
 use Rattle.words.proofs.length_words.Goals as goal
 
 pub returns-in-Bytes : goal.returns-in-Bytes

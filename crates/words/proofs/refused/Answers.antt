@@ -3,7 +3,6 @@ use mathlib.Core.List.{[], ◌∷◌}
 use Prim.Native.Nat.{◌<◌}
 use native.Mathlib.Omega.{arith}
 use Rattle.rules.specs.Base.{Refusal}
-use borrow.Author.Rules.{rules}
 use Rattle.words.proofs.refused.Goals as goal
 
 pub returns : goal.returns
@@ -11,5 +10,5 @@ returns c =
     let steps = c.args.steps in
     let e = c.numbers_of-n.ensures in record {
       words = ap (λ (r : Refusal). r.number ∷ r.first ∷ r.second ∷ steps ∷ 0 ∷ []) e;
-      small = subst (λ (r : Refusal). r.number < 256) e (omega (arith, c.struct_known-1.given));
+      small = subst (λ (r : Refusal). r.number < 256) e (omega arith);
     }

@@ -5,7 +5,6 @@ use native.Mathlib.Omega.{arith}
 use lib.ListN.{take}
 use Rattle.rules.specs.declared.answers.Ending.{Ending}
 use Rattle.rules.specs.Answers.{told_ending, end_words}
-use borrow.Author.Rules.{rules}
 use Rattle.words.proofs.run_words.Goals as goal
 
 -- the words of an ending after so many steps
