@@ -1,13 +1,9 @@
 -- By the invariant that what is left of the check reads the bytes that follow, for the types still to be read.
-use Prim.Native.Nat.{◌≤◌, ◌-◌}
 use native.Mathlib.Omega.{arith}
-use mathlib.Core.Path.{◌≡◌, ap, ◌∙◌}
+use mathlib.Core.Path.{ap, ◌∙◌}
 use lib.ListN.{length}
-use Rattle.rules.specs.Base.{byte_at}
-use Rattle.rules.specs.Container.{payload}
-use Rattle.rules.specs.Records.{arguments_of, declaration_at, program_in}
 use Rattle.rules.specs.declared.records.Declaration.{Declaration}
-use Rattle.arguments.proofs.ReadingLaws.{head_arity, Reading, parameters_put, reading_next, reading_stop, reading_short}
+use Rattle.arguments.proofs.ReadingLaws.{head_arity, parameters_put, reading_next, reading_stop, reading_short}
 use Rattle.arguments.proofs.ReadingLaws.{reading_whole, arguments_long, arguments_read, header_there}
 use borrow.Author.Rules.{rules}
 use Rattle.arguments.proofs.checking.check_arguments.Goals as goal

@@ -2,7 +2,6 @@
 use mathlib.Core.Path.{◌≡◌}
 use native.Mathlib.Omega.{arith}
 use Rattle.arguments.proofs.ReadingLaws.{put_one, put_two, put_three, put_four}
-use borrow.Author.Rules.{rules}
 use Rattle.arguments.proofs.checking.put_types.Goals as goal
 
 pub returns-then-n-eq1 : goal.returns-then-n-eq1

@@ -5,7 +5,6 @@ use lib.ListN.{length}
 use Rattle.rules.specs.declared.records.Declaration.{Declaration}
 use Rattle.arguments.proofs.ReadingLaws.{read_end, read_unknown, read_type, read_many, byte_unknown, declaration_there}
 use Rattle.arguments.proofs.ReadingLaws.{declared_arity, declared, byte_right}
-use borrow.Author.Rules.{rules}
 use Rattle.arguments.proofs.checking.read_byte.Goals as goal
 
 pub returns-then-at-ge256 : goal.returns-then-at-ge256

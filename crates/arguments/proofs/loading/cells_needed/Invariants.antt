@@ -1,12 +1,9 @@
 -- By the invariant that what is counted are the cells of the bytes that follow. A byte takes one at most.
 use Prim.Native.Nat.{◌+◌, ◌≤◌}
 use mathlib.Core.Path.{◌≡◌}
-use native.Mathlib.Omega.{arith}
-use lib.ListN.{length, drop, drop_of_length-le}
+use lib.ListN.{length, drop}
 use Rattle.rules.specs.Records.{program_in}
-use Rattle.rules.specs.Run.{cells_loaded_by, cells_loaded}
-use Rattle.arguments.proofs.LoadingLaws.{byte_known, counted_cell, counted_constant}
-use borrow.Author.Rules.{rules}
+use Rattle.rules.specs.Run.{cells_loaded}
 use Rattle.arguments.proofs.loading.cells_needed.Given as goal
 
 abbrev pub invariant-loop-i : goal.invariant-loop-i

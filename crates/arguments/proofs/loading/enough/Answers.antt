@@ -8,7 +8,6 @@ use Rattle.rules.specs.Program.{Program}
 use Rattle.rules.specs.Records.{program_in}
 use Rattle.rules.specs.Run.{cells_loaded}
 use Rattle.arguments.proofs.LoadingLaws.{loaded_few}
-use borrow.Author.Rules.{rules}
 use Rattle.arguments.proofs.loading.enough.Goals as goal
 
 pub returns-then-bytes-cells : goal.returns-then-bytes-cells

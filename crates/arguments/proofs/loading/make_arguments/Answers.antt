@@ -1,14 +1,10 @@
 -- By the invariant that the cells and references made are those of the bytes that follow. A constant makes no cell.
 use Prim.Native.Nat.{◌+◌, ◌≤◌, ◌<◌}
-use mathlib.Core.Logic.{⊎_elim}
-use mathlib.Core.Path.{◌≡◌, ◌∙◌, refl, sym}
+use mathlib.Core.Path.{◌∙◌, refl, sym}
 use native.Mathlib.Omega.{arith}
-use lib.ListN.{length, length-set}
-use Rattle.rules.specs.Records.{program_in}
+use lib.ListN.{length-set}
 use Rattle.store.proofs.CellLaws.{room_less, room_kept, cells_kept_length}
-use Rattle.arguments.specs.Loading.{MadeFrom}
 use Rattle.arguments.proofs.LoadingLaws.{made_none, made_all, byte_known, byte_few, byte_room, byte_fits, byte_constant, byte_cell}
-use borrow.Author.Rules.{rules}
 use Rattle.arguments.proofs.loading.make_arguments.Goals.{After-constructor_arity-n}
 use Rattle.arguments.proofs.loading.make_arguments.Goals.{then-n-ne0, else-n-ne0}
 use Rattle.arguments.proofs.loading.make_arguments.Goals as goal

@@ -4,7 +4,6 @@ use native.Mathlib.Omega.{arith}
 use Rattle.program.proofs.LayoutLaws.{functions_few}
 use Rattle.start.proofs.CallLaws.{head_there, no_entry, bad_arguments, callable}
 use Rattle.start.proofs.PrepareLaws.{refused_prepares}
-use borrow.Author.Rules.{rules}
 use Rattle.start.proofs.accepted.begin_accepted.Goals as goal
 
 pub returns-then-entry-wide : goal.returns-then-entry-wide

@@ -1,14 +1,13 @@
 -- `begin_called` meets its contract: frames, stack and cells are tested in this order; then the start fits and the arguments are loaded.
 use mathlib.Core.Path.{sym, ◌∙◌}
 use native.Mathlib.Omega.{arith}
-use borrow.Author.Tests.{leb-false, leb-true, not-false, not-true}
+use borrow.Author.Tests.{leb-false, leb-true}
 use Rattle.rules.specs.Records.{program_in}
 use Rattle.rules.specs.Run.{cells_loaded}
 use Rattle.start.proofs.BeginLaws.{bytes_all_lem}
 use Rattle.start.proofs.CallLaws.{few_functions, entry_there, inputs_are, out_of_frames, out_of_stack, out_of_cells, fitting}
 use Rattle.start.proofs.LoadLaws.{callable_loading, loading}
 use Rattle.start.proofs.PrepareLaws.{fits_some, refused_prepares, begun_prepares}
-use borrow.Author.Rules.{rules}
 use Rattle.start.proofs.accepted.begin_called.Goals as goal
 
 pub function_arity-arity-requires : goal.function_arity-arity-requires

@@ -1,7 +1,6 @@
 -- `load` meets its contract: the pending references that are left have one value for each parameter.
 use native.Mathlib.Omega.{arith}
 use Rattle.start.proofs.LoadLaws.{loading_arguments, pending_end, loaded}
-use borrow.Author.Rules.{rules}
 use Rattle.start.proofs.first.load.Goals as goal
 
 pub make_arguments-pending-requires : goal.make_arguments-pending-requires
