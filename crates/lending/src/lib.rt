@@ -1,4 +1,4 @@
-// A run on a frame table of its own, for callers that hold no record: lending one is not covered, so it is done here once.
+// A run on a frame table of its own, for callers that hold no record.
 #![tactic(auto)]
 
 ghost use Rattle.std.specs.Prelude.{◌≤◌, min};
@@ -7,8 +7,8 @@ ghost use Rattle.lending.specs.Here.{RunsHere};
 use rules::answers::Answer;
 use store::Frame;
 
-// For the crates above: a run on n blank records of its own, of which there are few. Proved by hand, since it lends the table, and thin:
-// a table, and one call. The table is filled for every run, so the one of a short run is small.
+// For the crates above: a run on n blank records of its own, of which there are few. It is thin: a table, and one call. The table is
+// filled for every run, so the one of a short run is small.
 pub fn run_small(
     file: &[u8],
     entry: u32,
@@ -74,7 +74,7 @@ fn run_medium(
     )
 }
 
-// The same on as many records as a run can have. One walk proves all three lenders, over any length of the table: LendingWalk.
+// The same on as many records as a run can have.
 fn run_large(
     file: &[u8],
     entry: u32,
@@ -108,7 +108,7 @@ fn run_large(
 }
 
 // The same run with a frame table of its own, of as many records as are usable, in the shortest table that has them. No parameter
-// holds a record, so its callers are covered.
+// holds a record.
 pub fn run_here(
     file: &[u8],
     entry: u32,

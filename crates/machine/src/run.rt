@@ -42,7 +42,7 @@ fn over(r: Registers) -> Registers
     paused(r, RESULT)
 }
 
-// A frame that rests at a call or a return gives way to another. Proved by hand, since it holds the table.
+// A frame that rests at a call or a return gives way to another.
 fn turn(
     file: &[u8],
     index: &[u32; 64],
@@ -84,7 +84,7 @@ fn settled(file: &[u8], r: Registers) -> Registers
     paused(r, RESULT)
 }
 
-// For the crates above: the run from a state on. Proved by hand, since it holds the table.
+// For the crates above: the run from a state on.
 pub fn drive(
     file: &[u8],
     index: &[u32; 64],

@@ -1,6 +1,5 @@
 // The open program, which document 01 calls an open sheet: the lent blocks together with the counts of the header, and the records of
-// their payload by offset. A struct that holds a slice is not covered, so each function over it is proved by hand, and thin: it hands
-// the slice and the offset to a covered function.
+// their payload by offset. Each function over it is thin: it hands the slice and the offset on.
 #![tactic(auto)]
 
 ghost use Rattle.std.specs.Prelude.{◌≡◌};

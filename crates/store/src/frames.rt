@@ -1,4 +1,4 @@
-// Waiting frames stored, read and cleared. Each of the three functions holds the table, so each is proved by hand.
+// Waiting frames stored, read and cleared.
 ghost use Rattle.std.specs.Prelude.{◌≡◌, true, ◌≤◌, ◌<◌, length};
 ghost use Rattle.rules.specs.Memory.{table_after};
 ghost use Rattle.store.specs.Frames.{no_frame, frame_in, FramePut};

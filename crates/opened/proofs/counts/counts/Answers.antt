@@ -1,6 +1,5 @@
 -- The check answers the verdict of the rules, and the counts are its own.
 use Rattle.opened.proofs.CountLaws.{counts_told}
-use borrow.Author.Rules.{rules}
 use Rattle.opened.proofs.counts.counts.Goals as goal
 
 pub returns-in-Accepted : goal.returns-in-Accepted
