@@ -1,9 +1,6 @@
 -- What begin ensures is what driving asks; what driving ensures is what delivering and wiping ask; and the answer is that of the run.
 use Rattle.std.proofs.Common.{refl}
-use Rattle.rules.specs.Run.{Outcome}
-use Rattle.store.specs.declared.frames.Frame.{Frame}
 use Rattle.store.proofs.FrameLaws.{frame_room_length}
-use Rattle.delivery.specs.Delivers.{Ended}
 use Rattle.interpreter.proofs.RunningLaws.{says, begun, ended, wiping, runs}
 use Rattle.interpreter.proofs.run.Goals as goal
 

@@ -1,5 +1,4 @@
 -- The records that are lent are the front of the table, as many blank ones as are asked.
-use Rattle.std.proofs.Common.{arith, length}
 use Rattle.std.proofs.lemmas.List.{take-replicate}
 use Rattle.store.specs.Frames.{no_frame}
 use Rattle.lending.proofs.run_large.Goals as goal

@@ -2,7 +2,6 @@ use mathlib.Core.Path.{ap, ◌∙◌}
 use native.Mathlib.Omega.{arith}
 use Rattle.rules.specs.Answers.{check_words}
 use Rattle.words.proofs.WordLaws.{told_words}
-use borrow.Author.Rules.{rules}
 use Rattle.panel.proofs.bedrafoly_check.Goals as goal
 
 pub returns : goal.returns

@@ -5,7 +5,6 @@ use lib.ListN.{length, take}
 use Rattle.rules.specs.Answers.{length_of, length_words}
 use Rattle.rules.specs.Lines.{lines_of}
 use Rattle.words.proofs.WordLaws.{told_words}
-use borrow.Author.Rules.{rules}
 use Rattle.panel.proofs.bedrafoly_lines.Goals as goal
 
 pub returns : goal.returns

@@ -1,5 +1,4 @@
 -- It is the entry above with all of the tables.
-use borrow.Author.Rules.{rules}
 use Rattle.panel.proofs.bedrafoly_run.Goals as goal
 
 pub returns : goal.returns

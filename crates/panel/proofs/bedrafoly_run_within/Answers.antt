@@ -7,7 +7,6 @@ use Rattle.rules.specs.Memory.{output_after}
 use Rattle.rules.specs.Run.{Lent, run}
 use Rattle.words.proofs.WordLaws.{told_words}
 use Rattle.panel.proofs.TableLaws.{front_long, tables_lent}
-use borrow.Author.Rules.{rules}
 use Rattle.panel.proofs.bedrafoly_run_within.Goals as goal
 
 pub slice_bounds-run_small-end : goal.slice_bounds-run_small-end
