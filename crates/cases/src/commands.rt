@@ -38,56 +38,56 @@ fn asked(line: &[u8], words: Words) -> Command {
     named(words::part(line, words::word(words, 0)), words.count)
 }
 
-fn convert(bytes: &[u8], out: &mut [u8], packs: bool) {
+fn convert(rt: &impl Print, bytes: &[u8], out: &mut [u8], packs: bool) {
     if packs {
         let answer = packing::pack(bytes, out);
-        answers::wrote(b"packed ", answer, out);
+        answers::wrote(rt, b"packed ", answer, out);
     } else {
         let answer = packing::unpack(bytes, out);
-        answers::wrote(b"unpacked ", answer, out);
+        answers::wrote(rt, b"unpacked ", answer, out);
     }
 }
 
 // pack and unpack, with an output of so many bytes.
-fn lend_output(bytes: &[u8], length: usize, packs: bool) {
+fn lend_output(rt: &impl Print, bytes: &[u8], length: usize, packs: bool) {
     if 70000 < length {
-        answers::bad_command();
+        answers::bad_command(rt);
         return;
     }
     let mut out = [lent::BYTE; 70000];
-    convert(bytes, &mut out[0..length], packs);
+    convert(rt, bytes, &mut out[0..length], packs);
 }
 
-fn convert_line(line: &mut [u8], words: Words, packs: bool) {
+fn convert_line(rt: &impl Print, line: &mut [u8], words: Words, packs: bool) {
     let Number::Of(length) = words::number_at(line, words, 2) else {
-        answers::bad_command();
+        answers::bad_command(rt);
         return;
     };
     let Decoded::Bytes(bytes) = hex::decode(line, words::word(words, 1)) else {
-        answers::bad_command();
+        answers::bad_command(rt);
         return;
     };
-    lend_output(words::part(line, bytes), length as usize, packs);
+    lend_output(rt, words::part(line, bytes), length as usize, packs);
 }
 
-fn check_line(line: &mut [u8], words: Words) {
+fn check_line(rt: &impl Print, line: &mut [u8], words: Words) {
     let Decoded::Bytes(file) = hex::decode(line, words::word(words, 1)) else {
-        answers::bad_command();
+        answers::bad_command(rt);
         return;
     };
-    answers::checked(verifier::check(words::part(line, file)));
+    answers::checked(rt, verifier::check(words::part(line, file)));
 }
 
 // One command, one answer. The line's bytes are used up.
-pub fn answer(line: &mut [u8]) {
+pub fn answer(rt: &impl Print, line: &mut [u8]) {
     let words = words::split(line);
     let it = asked(line, words);
     match it {
-        Command::Pack => convert_line(line, words, true),
-        Command::Unpack => convert_line(line, words, false),
-        Command::Check => check_line(line, words),
-        Command::Run => runs::run_line(line, words),
-        Command::Lines => surveys::lines_line(line, words),
-        Command::Bad => answers::bad_command(),
+        Command::Pack => convert_line(rt, line, words, true),
+        Command::Unpack => convert_line(rt, line, words, false),
+        Command::Check => check_line(rt, line, words),
+        Command::Run => runs::run_line(rt, line, words),
+        Command::Lines => surveys::lines_line(rt, line, words),
+        Command::Bad => answers::bad_command(rt),
     }
 }

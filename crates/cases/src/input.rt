@@ -3,8 +3,9 @@ ghost use Rattle.std.specs.Prelude.{◌≤◌, ◌<◌, length};
 ghost use Rattle.cases.specs.Window.{Within};
 
 use crate::commands;
-use libc::{STDIN_FILENO, STDOUT_FILENO};
+use intake::write_output;
 use protocol::answers;
+use std::io::Read;
 
 // The bytes from `from` up to `to` are not answered yet, and no line ends before `seen`. Of a line that is too long for the
 // buffer, `cut`, only the last bytes are there.
@@ -32,26 +33,22 @@ fn line_end(buffer: &[u8], seen: usize, to: usize) -> usize
     i
 }
 
-fn say(line: &mut [u8], cut: bool) {
+fn say(rt: &impl Print, line: &mut [u8], cut: bool) {
     if cut {
-        answers::bad_command();
+        answers::bad_command(rt);
     } else {
-        commands::answer(line);
+        commands::answer(rt, line);
     }
 }
 
 // The end of an answer. False where it cannot be written, which standard error then says.
-fn end_line() -> bool {
-    if io::write_all(STDOUT_FILENO, b"\n") {
-        return true;
-    }
-    os::fail(b"standard output");
-    false
+fn end_line(rt: &(impl Print + Eprint)) -> bool {
+    write_output(rt, b"\n")
 }
 
-fn answer(line: &mut [u8], cut: bool) -> bool {
-    say(line, cut);
-    end_line()
+fn answer(rt: &(impl Print + Eprint), line: &mut [u8], cut: bool) -> bool {
+    say(rt, line, cut);
+    end_line(rt)
 }
 
 // Move the bytes that are not answered yet to the buffer's front.
@@ -66,7 +63,7 @@ fn shift(buffer: &mut [u8], from: usize, to: usize)
 }
 
 // The end of the input: a last line may have no line's end.
-fn last(buffer: &mut [u8], window: Window) -> Window
+fn last(rt: &(impl Input + Print + Eprint), buffer: &mut [u8], window: Window) -> Window
     requires { Within window (length buffer.old) }
     ensures { Within result (length buffer.new) }
 {
@@ -74,7 +71,7 @@ fn last(buffer: &mut [u8], window: Window) -> Window
     let to = window.to;
     let cut = window.cut;
     if (from < to) | cut {
-        answer(&mut buffer[from..to], cut);
+        answer(rt, &mut buffer[from..to], cut);
     }
     Window {
         from: to,
@@ -85,23 +82,22 @@ fn last(buffer: &mut [u8], window: Window) -> Window
     }
 }
 
-// One read, and how many bytes it put at the part's front.
-fn read(part: &mut [u8]) -> usize
+// One read, and how many bytes it put at the part's front: none where it fails.
+fn read(rt: &impl Input, part: &mut [u8]) -> usize
     ensures { result ≤ length part.new }
 {
-    let got = libc::read(STDIN_FILENO, part);
-    io::count(got, part)
+    rt.reader().read(part).unwrap_or(0)
 }
 
 // One read into the buffer's free end.
-fn more(buffer: &mut [u8], window: Window) -> Window
+fn more(rt: &(impl Input + Print + Eprint), buffer: &mut [u8], window: Window) -> Window
     requires { Within window (length buffer.old) }
     ensures { Within result (length buffer.new) }
 {
     let to = window.to;
-    let n = read(&mut buffer[to..]);
+    let n = read(rt, &mut buffer[to..]);
     if n == 0 {
-        return last(buffer, window);
+        return last(rt, buffer, window);
     }
     Window {
         from: window.from,
@@ -113,7 +109,7 @@ fn more(buffer: &mut [u8], window: Window) -> Window
 }
 
 // One turn: answer a line that is there whole, or make room, or read. It is the last where an answer cannot be written.
-pub fn turn(buffer: &mut [u8], window: Window) -> Window
+pub fn turn(rt: &(impl Input + Print + Eprint), buffer: &mut [u8], window: Window) -> Window
     requires { Within window (length buffer.old) }
     ensures { Within result (length buffer.new) }
 {
@@ -121,7 +117,7 @@ pub fn turn(buffer: &mut [u8], window: Window) -> Window
     let to = window.to;
     let end = line_end(buffer, window.seen, to);
     if end < to {
-        let said = answer(&mut buffer[from..end], window.cut);
+        let said = answer(rt, &mut buffer[from..end], window.cut);
         return Window {
             from: end + 1,
             seen: end + 1,
@@ -150,6 +146,7 @@ pub fn turn(buffer: &mut [u8], window: Window) -> Window
         };
     }
     more(
+        rt,
         buffer,
         Window {
             from: 0,

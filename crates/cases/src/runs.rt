@@ -87,6 +87,7 @@ fn read_call(line: &mut [u8], words: Words) -> Called {
 }
 
 fn run(
+    rt: &impl Print,
     line: &[u8],
     call: Call,
     cells: &mut [u16],
@@ -106,6 +107,7 @@ fn run(
         out,
     );
     answers::ran(
+        rt,
         answer,
         lent::found(cells, stack),
         arguments.len(),
@@ -124,6 +126,7 @@ fn least(n: usize, most: usize) -> usize
 // A run in the fronts of these tables, which are long enough. It has no way out before the run: in front of a large frame LLVM moves
 // such a way before the function's prologue, whose stack probe then overwrites a register that is in use.
 fn run_in(
+    rt: &impl Print,
     line: &[u8],
     call: Call,
     sizes: Sizes,
@@ -135,6 +138,7 @@ fn run_in(
     let stack_count = least(sizes.stack, stack.len());
     let out_count = least(sizes.out, out.len());
     run(
+        rt,
         line,
         call,
         &mut cells[0..cell_count],
@@ -147,25 +151,25 @@ fn run_in(
 // The tables stand on the native stack, most of which the writing of a deep result takes. So there are three sizes of them: for
 // most calls; more cells than are used with a short stack, which leaves room for a result of 65,471 levels; and the longest.
 
-fn run_small(line: &[u8], call: Call, sizes: Sizes) {
+fn run_small(rt: &impl Print, line: &[u8], call: Call, sizes: Sizes) {
     let mut cells = [lent::NUMBER; 4096];
     let mut stack = [lent::NUMBER; 1024];
     let mut out = [lent::BYTE; 4096];
-    run_in(line, call, sizes, &mut cells, &mut stack, &mut out);
+    run_in(rt, line, call, sizes, &mut cells, &mut stack, &mut out);
 }
 
-fn run_deep(line: &[u8], call: Call, sizes: Sizes) {
+fn run_deep(rt: &impl Print, line: &[u8], call: Call, sizes: Sizes) {
     let mut cells = [lent::NUMBER; 327680];
     let mut stack = [lent::NUMBER; 8192];
     let mut out = [lent::BYTE; 70000];
-    run_in(line, call, sizes, &mut cells, &mut stack, &mut out);
+    run_in(rt, line, call, sizes, &mut cells, &mut stack, &mut out);
 }
 
-fn run_large(line: &[u8], call: Call, sizes: Sizes) {
+fn run_large(rt: &impl Print, line: &[u8], call: Call, sizes: Sizes) {
     let mut cells = [lent::NUMBER; 700000];
     let mut stack = [lent::NUMBER; 80000];
     let mut out = [lent::BYTE; 70000];
-    run_in(line, call, sizes, &mut cells, &mut stack, &mut out);
+    run_in(rt, line, call, sizes, &mut cells, &mut stack, &mut out);
 }
 
 // Whether tables of these lengths are long enough.
@@ -175,45 +179,45 @@ fn fits(sizes: Sizes, cells: usize, stack: usize, out: usize) -> bool {
 
 // The smallest tables that are long enough, of the first so many sizes. A loop over the sizes would do, but then the compiler
 // makes one frame of all of them; it keeps large frames out of a function that calls itself.
-fn run_within(line: &[u8], call: Call, sizes: Sizes, tries: usize) -> bool {
+fn run_within(rt: &impl Print, line: &[u8], call: Call, sizes: Sizes, tries: usize) -> bool {
     if tries == 0 {
         return false;
     }
-    if run_within(line, call, sizes, tries - 1) {
+    if run_within(rt, line, call, sizes, tries - 1) {
         return true;
     }
     if tries == 1 {
         let small = fits(sizes, 4096, 1024, 4096);
         if small {
-            run_small(line, call, sizes);
+            run_small(rt, line, call, sizes);
         }
         return small;
     }
     if tries == 2 {
         let deep = fits(sizes, 327680, 8192, 70000);
         if deep {
-            run_deep(line, call, sizes);
+            run_deep(rt, line, call, sizes);
         }
         return deep;
     }
     let large = fits(sizes, 700000, 80000, 70000);
     if large {
-        run_large(line, call, sizes);
+        run_large(rt, line, call, sizes);
     }
     large
 }
 
-pub fn run_line(line: &mut [u8], words: Words) {
+pub fn run_line(rt: &impl Print, line: &mut [u8], words: Words) {
     let Sized::By(sizes) = read_sizes(line, words) else {
-        answers::bad_command();
+        answers::bad_command(rt);
         return;
     };
     let Called::With(call) = read_call(line, words) else {
-        answers::bad_command();
+        answers::bad_command(rt);
         return;
     };
-    if run_within(line, call, sizes, 3) {
+    if run_within(rt, line, call, sizes, 3) {
         return;
     }
-    answers::bad_command();
+    answers::bad_command(rt);
 }

@@ -40,33 +40,38 @@ fn read_numbers(line: &[u8], words: Words) -> Read {
     })
 }
 
-fn answer(text: &[u8], table: &[u8], numbers: Numbers, out: &mut [u8]) {
+fn answer(rt: &impl Print, text: &[u8], table: &[u8], numbers: Numbers, out: &mut [u8]) {
     let wrote = lines::lines(text, table, numbers.cons, numbers.nil, out);
-    answers::wrote(b"lines ", wrote, out);
+    answers::wrote(rt, b"lines ", wrote, out);
 }
 
-fn lend_output(text: &[u8], table: &[u8], numbers: Numbers) {
+fn lend_output(rt: &impl Print, text: &[u8], table: &[u8], numbers: Numbers) {
     let length = numbers.out;
     if 70000 < length {
-        answers::bad_command();
+        answers::bad_command(rt);
         return;
     }
     let mut out = [lent::BYTE; 70000];
-    answer(text, table, numbers, &mut out[0..length]);
+    answer(rt, text, table, numbers, &mut out[0..length]);
 }
 
-pub fn lines_line(line: &mut [u8], words: Words) {
+pub fn lines_line(rt: &impl Print, line: &mut [u8], words: Words) {
     let Read::As(numbers) = read_numbers(line, words) else {
-        answers::bad_command();
+        answers::bad_command(rt);
         return;
     };
     let Decoded::Bytes(text) = hex::decode(line, words::word(words, 1)) else {
-        answers::bad_command();
+        answers::bad_command(rt);
         return;
     };
     let Decoded::Bytes(table) = hex::decode(line, words::word(words, 2)) else {
-        answers::bad_command();
+        answers::bad_command(rt);
         return;
     };
-    lend_output(words::part(line, text), words::part(line, table), numbers);
+    lend_output(
+        rt,
+        words::part(line, text),
+        words::part(line, table),
+        numbers,
+    );
 }

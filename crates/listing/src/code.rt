@@ -55,12 +55,12 @@ fn put_arrival(line: Line, here: Arrival) -> Line {
 }
 
 // An instruction with a field out of its range, as its bytes stand.
-fn write_refused(i: usize, r: InstructionRecord) -> bool {
+fn write_refused(rt: &(impl Print + Eprint), i: usize, r: InstructionRecord) -> bool {
     put_number(true, i)
         .byte(b"operation ", r.operation)
         .byte(b", a ", r.a)
         .number(b", b ", r.b as usize)
-        .write()
+        .write(rt)
 }
 
 // What was listed of an instruction: whether the listing goes on behind it, whether its line could be written, and what it is.
@@ -81,18 +81,25 @@ fn stopped(written: bool) -> Listed {
 }
 
 // Instruction i, whose record stands at an offset, with what arrives there.
-fn list_instruction(file: &[u8], at: usize, is_marked: bool, i: usize, here: Arrival) -> Listed {
+fn list_instruction(
+    rt: &(impl Print + Eprint),
+    file: &[u8],
+    at: usize,
+    is_marked: bool,
+    i: usize,
+    here: Arrival,
+) -> Listed {
     let found = instruction_in(file, at);
     if !found.there {
-        return stopped(write_cut(b"an instruction", at));
+        return stopped(write_cut(rt, b"an instruction", at));
     }
     let r = found.instruction;
     let fetched = operation_of(r);
     let Fetched::Is(ins) = fetched else {
-        return stopped(write_refused(i, r));
+        return stopped(write_refused(rt, i, r));
     };
     let line = put_operation(put_number(is_marked, i), ins);
-    let written = put_arrival(line, here).write();
+    let written = put_arrival(line, here).write(rt);
     Listed {
         on: written,
         written: written,
@@ -102,6 +109,7 @@ fn list_instruction(file: &[u8], at: usize, is_marked: bool, i: usize, here: Arr
 
 // Function g with its code from an offset on: each slot has what arrives at an instruction, and slot 0 what goes nowhere.
 pub fn list_code(
+    rt: &(impl Print + Eprint),
     file: &[u8],
     refusal: Numbers,
     names: Names,
@@ -119,7 +127,7 @@ pub fn list_code(
     while k < last {
         let i = k + 1;
         let here = waiting[i];
-        let listed = list_instruction(file, at, marks_instruction(refusal, g, i), i, here);
+        let listed = list_instruction(rt, file, at, marks_instruction(refusal, g, i), i, here);
         if !listed.on {
             return progress::ended(listed.written);
         }

@@ -13,47 +13,63 @@ fn put_name(is_marked: bool, c: usize) -> Line {
 }
 
 // A constructor that takes nothing weighs nothing, and its weight is not said.
-fn write_constructor(is_marked: bool, c: usize, r: ConstructorRecord) -> bool {
+fn write_constructor(
+    rt: &(impl Print + Eprint),
+    is_marked: bool,
+    c: usize,
+    r: ConstructorRecord,
+) -> bool {
     let d = r.declaration;
     let line = put_signature(put_name(is_marked, c), d);
     if (d.arity == 0) & (r.weight == 0) {
-        return line.write();
+        return line.write(rt);
     }
-    line.byte(b", weight ", r.weight).write()
+    line.byte(b", weight ", r.weight).write(rt)
 }
 
 // A constructor with a field out of its range, as its bytes stand.
-fn write_refused(c: usize, r: ConstructorRecord) -> bool {
+fn write_refused(rt: &(impl Print + Eprint), c: usize, r: ConstructorRecord) -> bool {
     let d = r.declaration;
     put_fields(put_name(true, c), d)
         .byte(b", weight ", r.weight)
         .byte(b", reserved ", r.reserved)
-        .write()
+        .write(rt)
 }
 
 // Constructor c, whose record stands at an offset.
-fn list_constructor(file: &[u8], refusal: Numbers, c: usize, at: usize) -> Progress {
+fn list_constructor(
+    rt: &(impl Print + Eprint),
+    file: &[u8],
+    refusal: Numbers,
+    c: usize,
+    at: usize,
+) -> Progress {
     let found = constructor_in(file, at);
     if !found.there {
-        return progress::ended(write_cut(b"a constructor", at));
+        return progress::ended(write_cut(rt, b"a constructor", at));
     }
     let r = found.constructor;
     if marks_record(refusal, at) {
-        return progress::ended(write_refused(c, r));
+        return progress::ended(write_refused(rt, c, r));
     }
-    let written = write_constructor(marks_constructor(refusal, c), c, r);
+    let written = write_constructor(rt, marks_constructor(refusal, c), c, r);
     progress::going(progress::offset_behind(at, 8), written)
 }
 
-pub fn list_constructors(file: &[u8], refusal: Numbers, constructors: u8) -> Progress {
+pub fn list_constructors(
+    rt: &(impl Print + Eprint),
+    file: &[u8],
+    refusal: Numbers,
+    constructors: u8,
+) -> Progress {
     let count = readers::wide(constructors);
-    let mut p = progress::going(readers::constructor_offset(0), text::write_gap());
+    let mut p = progress::going(readers::constructor_offset(0), text::write_gap(rt));
     let mut c: usize = 0;
     while c < count {
         if !p.on {
             return p;
         }
-        p = list_constructor(file, refusal, c, p.at);
+        p = list_constructor(rt, file, refusal, c, p.at);
         c += 1;
     }
     p

@@ -4,7 +4,7 @@ use crate::text;
 use report::Numbers;
 
 // One block. The answer is whether its line could be written.
-fn list_block(file: &[u8], refusal: Numbers, block: usize) -> bool {
+fn list_block(rt: &(impl Print + Eprint), file: &[u8], refusal: Numbers, block: usize) -> bool {
     if file.len() / 512 <= block {
         return true;
     }
@@ -15,17 +15,17 @@ fn list_block(file: &[u8], refusal: Numbers, block: usize) -> bool {
         .number(b"block ", block)
         .number(b": number ", number as usize)
         .number(b", used ", used as usize)
-        .write()
+        .write(rt)
 }
 
-pub fn list_blocks(file: &[u8], refusal: Numbers) -> bool {
-    if !text::write_gap() {
+pub fn list_blocks(rt: &(impl Print + Eprint), file: &[u8], refusal: Numbers) -> bool {
+    if !text::write_gap(rt) {
         return false;
     }
     let count = file.len() / 512;
     let mut block: usize = 0;
     while block < count {
-        if !list_block(file, refusal, block) {
+        if !list_block(rt, file, refusal, block) {
             return false;
         }
         block += 1;

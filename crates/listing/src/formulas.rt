@@ -105,30 +105,31 @@ fn put_alternatives(
 }
 
 // An alternative that is cut short or has a field out of its range ends the listing.
-fn list_refused(file: &[u8], at: usize) -> Progress {
+fn list_refused(rt: &(impl Print + Eprint), file: &[u8], at: usize) -> Progress {
     let found = alternative_in(file, at);
     if !found.there {
-        return progress::ended(write_cut(b"an alternative", at));
+        return progress::ended(write_cut(rt, b"an alternative", at));
     }
     let r = found.alternative;
     let four = r.coefficients;
     let line = put_four(text::marked(true).put(b"alternative: coefficients"), four);
-    progress::ended(line.number(b", constant ", r.constant as usize).write())
+    progress::ended(line.number(b", constant ", r.constant as usize).write(rt))
 }
 
 // A bound of which this much is right.
-fn list_part(file: &[u8], bound: Bound) -> Progress {
+fn list_part(rt: &(impl Print + Eprint), file: &[u8], bound: Bound) -> Progress {
     if 0 < bound.count {
         let line = bound.line;
-        if !line.put(b", ..)").write() {
+        if !line.put(b", ..)").write(rt) {
             return progress::ended(false);
         }
     }
-    list_refused(file, bound.at)
+    list_refused(rt, file, bound.at)
 }
 
 // The bound of function g, of so many alternatives from an offset on.
 pub fn list_bound(
+    rt: &(impl Print + Eprint),
     file: &[u8],
     refusal: Numbers,
     g: usize,
@@ -141,14 +142,14 @@ pub fn list_bound(
         let one = put_alternatives(file, refusal, begun, 1, at);
         if one.count == 1 {
             let line = one.line;
-            return progress::going(one.at, line.write());
+            return progress::going(one.at, line.write(rt));
         }
-        return list_refused(file, at);
+        return list_refused(rt, file, at);
     }
     let several = put_alternatives(file, refusal, begun.put(b"max("), n, at);
     if several.count == n {
         let line = several.line;
-        return progress::going(several.at, line.put(b")").write());
+        return progress::going(several.at, line.put(b")").write(rt));
     }
-    list_part(file, several)
+    list_part(rt, file, several)
 }

@@ -13,23 +13,24 @@ fn put_name(is_marked: bool, g: usize) -> Line {
     text::marked(is_marked).number(b"function ", g)
 }
 
-fn write_function(is_marked: bool, g: usize, head: HeadRecord) -> bool {
+fn write_function(rt: &(impl Print + Eprint), is_marked: bool, g: usize, head: HeadRecord) -> bool {
     let d = head.declaration;
-    put_signature(put_name(is_marked, g), d).write()
+    put_signature(put_name(is_marked, g), d).write(rt)
 }
 
 // A head with a field out of its range, as its bytes stand.
-fn write_refused(g: usize, head: HeadRecord) -> bool {
+fn write_refused(rt: &(impl Print + Eprint), g: usize, head: HeadRecord) -> bool {
     let d = head.declaration;
     put_fields(put_name(true, g), d)
         .byte(b", alternatives ", head.alternatives)
         .byte(b", reserved ", head.reserved)
         .number(b", instructions ", head.instructions as usize)
-        .write()
+        .write(rt)
 }
 
 // What follows the head of function g, from an offset on.
 fn list_body(
+    rt: &(impl Print + Eprint),
     file: &[u8],
     refusal: Numbers,
     names: Names,
@@ -37,30 +38,38 @@ fn list_body(
     head: HeadRecord,
     at: usize,
 ) -> Progress {
-    let bound = formulas::list_bound(file, refusal, g, head.alternatives, at);
+    let bound = formulas::list_bound(rt, file, refusal, g, head.alternatives, at);
     if !bound.on {
         return bound;
     }
-    code::list_code(file, refusal, names, g, head, bound.at)
+    code::list_code(rt, file, refusal, names, g, head, bound.at)
 }
 
 // Function g, whose head stands at an offset.
-fn list_function(file: &[u8], refusal: Numbers, names: Names, g: usize, at: usize) -> Progress {
-    if !text::write_gap() {
+fn list_function(
+    rt: &(impl Print + Eprint),
+    file: &[u8],
+    refusal: Numbers,
+    names: Names,
+    g: usize,
+    at: usize,
+) -> Progress {
+    if !text::write_gap(rt) {
         return progress::ended(false);
     }
     let found = head_in(file, at);
     if !found.there {
-        return progress::ended(write_cut(b"a function head", at));
+        return progress::ended(write_cut(rt, b"a function head", at));
     }
     let head = found.head;
     if marks_record(refusal, at) {
-        return progress::ended(write_refused(g, head));
+        return progress::ended(write_refused(rt, g, head));
     }
-    if !write_function(marks_signature(refusal, g), g, head) {
+    if !write_function(rt, marks_signature(refusal, g), g, head) {
         return progress::ended(false);
     }
     list_body(
+        rt,
         file,
         refusal,
         names,
@@ -71,7 +80,13 @@ fn list_function(file: &[u8], refusal: Numbers, names: Names, g: usize, at: usiz
 }
 
 // The functions of a program, the first of which stands at an offset.
-pub fn list_functions(file: &[u8], refusal: Numbers, header: Header, at: usize) -> Progress {
+pub fn list_functions(
+    rt: &(impl Print + Eprint),
+    file: &[u8],
+    refusal: Numbers,
+    header: Header,
+    at: usize,
+) -> Progress {
     let count = readers::wide(header.functions);
     let names = Names {
         constructors: header.constructors,
@@ -84,7 +99,7 @@ pub fn list_functions(file: &[u8], refusal: Numbers, header: Header, at: usize) 
         if !p.on {
             return p;
         }
-        p = list_function(file, refusal, names, g, p.at);
+        p = list_function(rt, file, refusal, names, g, p.at);
         g += 1;
     }
     p

@@ -20,8 +20,7 @@ mod signatures; // signatures.rt: declared types as text
 mod states; // states.rt: the types of the stack on arrival at an instruction
 mod text; // text.rt: one line of the listing
 
-use intake::read_input;
-use libc::STDERR_FILENO;
+use intake::{has_words, read_input};
 use report::Numbers;
 use rules::answers::{Counts, Verdict};
 
@@ -53,50 +52,52 @@ fn refusal_in(verdict: Verdict) -> Numbers {
 }
 
 // The listing of a program whose counts are these, or which is refused where they are 0. The answer is whether all of it could be written.
-fn list_opened(file: &[u8], types: u8, constructors: u8, functions: u8) -> bool {
+fn list_opened(
+    rt: &(impl Print + Eprint),
+    file: &[u8],
+    types: u8,
+    constructors: u8,
+    functions: u8,
+) -> bool {
     let verdict = verdict_on(file, types, constructors, functions);
-    if !text::write_verdict_line(verdict) {
+    if !text::write_verdict_line(rt, verdict) {
         return false;
     }
     let refusal = refusal_in(verdict);
     let number = refusal.number;
     if 0 < number {
-        if !sentences::write_rule(refusal) {
+        if !sentences::write_rule(rt, refusal) {
             return false;
         }
     }
     match number {
         1 => true,
-        2 | 3 => damage::list_blocks(file, refusal),
-        _ => contents::list_records(file, refusal),
+        2 | 3 => damage::list_blocks(rt, file, refusal),
+        _ => contents::list_records(rt, file, refusal),
     }
 }
 
-// The listing of any bytes: they are opened, and the blocks and the counts go on. It holds the open program, so it is proved by hand,
-// and thin.
-fn list(file: &[u8]) -> bool {
+// The listing of any bytes: they are opened, and the blocks and the counts go on.
+fn list(rt: &(impl Print + Eprint), file: &[u8]) -> bool {
     let p = opened::open(file);
-    list_opened(p.blocks, p.types, p.constructors, p.functions)
+    list_opened(rt, p.blocks, p.types, p.constructors, p.functions)
 }
 
-fn list_input() {
+fn list_input(rt: &(impl Input + Print + Eprint)) {
     let mut buffer = [0u8; 32769];
-    let input = read_input(&mut buffer);
+    let input = read_input(rt, &mut buffer);
     if !input.read {
-        os::fail(b"standard input");
         return;
     }
     let n = input.count;
-    if !list(&buffer[..n]) {
-        os::fail(b"standard output");
-    }
+    list(rt, &buffer[..n]);
 }
 
 // It takes no words: whoever names a file would wait for standard input.
-fn main() {
-    if 1 < os::arg_count() {
-        io::write_all(STDERR_FILENO, b"usage: listing <FILE\n");
+fn main(rt: HostRuntime) {
+    if has_words(&rt) {
+        let _ = eprintln!(rt; "usage: listing <FILE");
         return;
     }
-    list_input();
+    list_input(&rt);
 }

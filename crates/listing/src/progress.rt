@@ -43,9 +43,9 @@ pub fn ended(written: bool) -> Progress {
 }
 
 // A record that is not there whole ends the listing. The answer is whether the line could be written.
-pub fn write_cut(record: &[u8], at: usize) -> bool {
+pub fn write_cut(rt: &(impl Print + Eprint), record: &[u8], at: usize) -> bool {
     text::marked(true)
         .put(record)
         .number(b" is cut short here, at payload byte ", at)
-        .write()
+        .write(rt)
 }

@@ -83,15 +83,15 @@ fn put_code(line: Line, number: u8) -> Line {
 }
 
 // The sentence on a refusal. The answer is whether it could be written.
-pub fn write_rule(refusal: Numbers) -> bool {
+pub fn write_rule(rt: &(impl Print + Eprint), refusal: Numbers) -> bool {
     let number = refusal.number;
     let begun = text::empty_line().byte(b"rule ", number);
     let line = put_place(begun, refusal).put(b": ");
     if number <= 3 {
-        return put_damage(line, number).write();
+        return put_damage(line, number).write(rt);
     }
     if number <= 6 {
-        return put_declaration(line, refusal).write();
+        return put_declaration(line, refusal).write(rt);
     }
-    put_code(line, number).write()
+    put_code(line, number).write(rt)
 }

@@ -1,7 +1,8 @@
-// One line of the listing, by value: text is put into it as far as there is room, and it is written by one call.
+// One line of the listing, by value: text is put into it as far as there is room, and it is written by one call. Where it cannot be
+// written, standard error says why.
 ghost use Rattle.std.specs.Prelude.{◌≤◌};
 
-use libc::STDOUT_FILENO;
+use intake::write_output;
 use rules::answers::Verdict;
 
 // The text so far, with room for the line's end. The longest lines are the rules' sentences and bounds of four alternatives.
@@ -93,23 +94,23 @@ impl Line {
     }
 
     // Writes the line with its end. The answer is whether that could be done.
-    pub fn write(self) -> bool {
+    pub fn write(self, rt: &(impl Print + Eprint)) -> bool {
         let mut bytes = self.bytes;
         let count = least(self.count, 319);
         bytes[count] = b'\n';
         let end = count + 1;
-        io::write_all(STDOUT_FILENO, &bytes[..end])
+        write_output(rt, &bytes[..end])
     }
 }
 
 // The line that tells a verdict.
-pub fn write_verdict_line(verdict: Verdict) -> bool {
+pub fn write_verdict_line(rt: &(impl Print + Eprint), verdict: Verdict) -> bool {
     let mut line = [0u8; 72];
     let count = report::line::write_verdict(verdict, &mut line);
-    io::write_all(STDOUT_FILENO, &line[..count])
+    write_output(rt, &line[..count])
 }
 
 // An empty line, between two parts of the listing.
-pub fn write_gap() -> bool {
-    empty_line().write()
+pub fn write_gap(rt: &(impl Print + Eprint)) -> bool {
+    empty_line().write(rt)
 }

@@ -1,42 +1,41 @@
 // The answers, each without its line's end.
 use crate::lent::Left;
 use crate::{hex, lent};
-use libc::STDOUT_FILENO;
 use report::line::write_verdict;
 use rules::answers::{Answer, Ending, Length, Reason, Verdict};
 
-fn text(bytes: &[u8]) {
-    io::write_all(STDOUT_FILENO, bytes);
+// What cannot be written is left out: whoever ends the line finds that out.
+fn text(rt: &impl Print, bytes: &[u8]) {
+    let _ = rt.write_all(bytes);
 }
 
-fn number(n: u64) {
-    text(b" ");
-    io::print_decimal(STDOUT_FILENO, n);
+fn number(rt: &impl Print, n: u64) {
+    let _ = print!(rt; " {n}");
 }
 
-pub fn bad_command() {
-    text(b"bad command");
+pub fn bad_command(rt: &impl Print) {
+    text(rt, b"bad command");
 }
 
 // A call wrote where it must not, or left tables half cleared.
-fn wrong() {
-    text(b"tables wrong");
+fn wrong(rt: &impl Print) {
+    text(rt, b"tables wrong");
 }
 
-fn refused(reason: Reason) {
+fn refused(rt: &impl Print, reason: Reason) {
     let told = report::numbers_of(reason);
-    text(b"refused");
-    number(told.number as u64);
-    number(told.first as u64);
-    number(told.second as u64);
+    text(rt, b"refused");
+    number(rt, told.number as u64);
+    number(rt, told.first as u64);
+    number(rt, told.second as u64);
 }
 
-pub fn checked(verdict: Verdict) {
+pub fn checked(rt: &impl Print, verdict: Verdict) {
     let mut line = [0u8; 72];
     let n = write_verdict(verdict, &mut line);
     if 0 < n {
         let end = n - 1;
-        text(&line[0..end]);
+        text(rt, &line[0..end]);
     }
 }
 
@@ -48,22 +47,22 @@ fn length(answer: Length) -> usize {
 }
 
 // The answer of pack or unpack, with what it wrote to the output.
-pub fn wrote(name: &[u8], answer: Length, out: &[u8]) {
+pub fn wrote(rt: &impl Print, name: &[u8], answer: Length, out: &[u8]) {
     let n = length(answer);
     if out.len() < n {
-        wrong();
+        wrong(rt);
         return;
     }
     if !lent::kept(&out[n..]) {
-        wrong();
+        wrong(rt);
         return;
     }
     match answer {
         Length::Bytes(_) => {
-            text(name);
-            hex::write(&out[0..n]);
+            text(rt, name);
+            hex::write(rt, &out[0..n]);
         }
-        Length::Refused(reason) => refused(reason),
+        Length::Refused(reason) => refused(rt, reason),
     }
 }
 
@@ -75,18 +74,18 @@ fn result_length(ending: Ending) -> usize {
     }
 }
 
-fn ended(answer: Answer, res: &[u8], begun: u64) {
+fn ended(rt: &impl Print, answer: Answer, res: &[u8], begun: u64) {
     let ending = answer.ending;
     match ending {
         Ending::Result(_) => {
-            text(b"figure ");
-            hex::write(res);
+            text(rt, b"figure ");
+            hex::write(rt, res);
         }
-        Ending::Aborted => text(b"gaveup"),
-        Ending::Refused(reason) => refused(reason),
+        Ending::Aborted => text(rt, b"gaveup"),
+        Ending::Refused(reason) => refused(rt, reason),
     }
-    number(answer.steps as u64);
-    number(begun);
+    number(rt, answer.steps as u64);
+    number(rt, begun);
 }
 
 // Whether a run has begun that had no usable cells and no usable stack, in which nothing shows it. Before the start such a run is
@@ -106,27 +105,34 @@ fn begun_unseen(ending: Ending, arguments: usize, frames: usize) -> bool {
 }
 
 // The answer of run on so many argument bytes and frames, with what it left in its tables and wrote to the output.
-pub fn ran(answer: Answer, left: Left, arguments: usize, frames: usize, out: &[u8]) {
+pub fn ran(
+    rt: &impl Print,
+    answer: Answer,
+    left: Left,
+    arguments: usize,
+    frames: usize,
+    out: &[u8],
+) {
     let ending = answer.ending;
     let n = result_length(ending);
     if out.len() < n {
-        wrong();
+        wrong(rt);
         return;
     }
     if !lent::kept(&out[n..]) {
-        wrong();
+        wrong(rt);
         return;
     }
     match left {
         Left::Either => {
             if begun_unseen(ending, arguments, frames) {
-                ended(answer, &out[0..n], 1);
+                ended(rt, answer, &out[0..n], 1);
             } else {
-                ended(answer, &out[0..n], 0);
+                ended(rt, answer, &out[0..n], 0);
             }
         }
-        Left::Kept => ended(answer, &out[0..n], 0),
-        Left::Zeroed => ended(answer, &out[0..n], 1),
-        Left::Wrong => wrong(),
+        Left::Kept => ended(rt, answer, &out[0..n], 0),
+        Left::Zeroed => ended(rt, answer, &out[0..n], 1),
+        Left::Wrong => wrong(rt),
     }
 }

@@ -2,7 +2,6 @@
 ghost use Rattle.std.specs.Prelude.{◌≡◌, ◌+◌, ◌*◌, ◌≤◌, ◌<◌, min, length};
 
 use crate::words::Span;
-use libc::STDOUT_FILENO;
 
 #[derive(Clone, Copy)]
 enum Byte {
@@ -104,7 +103,7 @@ fn digit(value: u8) -> u8
 }
 
 // The digits of a few bytes.
-fn write_some(bytes: &[u8])
+fn write_some(rt: &impl Print, bytes: &[u8])
     requires { length bytes.now ≤ 256 }
 {
     let mut text = [0u8; 512];
@@ -116,7 +115,7 @@ fn write_some(bytes: &[u8])
         i += 1;
     }
     let end = 2 * i;
-    io::write_all(STDOUT_FILENO, &text[0..end]);
+    let _ = rt.write_all(&text[0..end]);
 }
 
 fn at_most_256(n: usize) -> usize
@@ -126,15 +125,15 @@ fn at_most_256(n: usize) -> usize
 }
 
 // The digits of bytes, so many at a time that few calls write them.
-pub fn write(bytes: &[u8]) {
+pub fn write(rt: &impl Print, bytes: &[u8]) {
     if bytes.len() == 0 {
-        io::write_all(STDOUT_FILENO, b"-");
+        let _ = rt.write_all(b"-");
         return;
     }
     let mut from: usize = 0;
     while from < bytes.len() {
         let to = from + at_most_256(bytes.len() - from);
-        write_some(&bytes[from..to]);
+        write_some(rt, &bytes[from..to]);
         from = to;
     }
 }

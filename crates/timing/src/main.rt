@@ -1,5 +1,4 @@
-// Does a job from standard input many times; then one line with the sum over all answers. Time is taken from outside, since the
-// kit's clock fills a struct behind a reference.
+// Does a job from standard input many times; then one line with the sum over all answers. Time is taken from outside.
 // A job: ten numbers of four bytes, low byte first, then the program's bytes and the argument bytes.
 // The numbers: mode (1 check, 2 run, 3 lines), repetitions, length of program, length of arguments, entry, budget, lengths of the lent
 // cells (numbers), stack (numbers) and frames (numbers, three to a record), and the length of the output. For lines a text, a table,
@@ -7,8 +6,8 @@
 #![tactic(auto)]
 
 use blocks::long_at;
-use libc::{STDIN_FILENO, STDOUT_FILENO};
 use rules::answers::{Ending, Length, Verdict};
+use std::io::Read;
 
 // A number for a verdict: 100 where it is accepted, else the refusal's.
 fn verdict_number(verdict: Verdict) -> u64 {
@@ -89,12 +88,11 @@ fn surveys(text: &[u8], table: &[u8], cons: u8, nil: u8, out: &mut [u8], times: 
     sum
 }
 
-fn line(sum: u64) {
-    io::print_decimal(STDOUT_FILENO, sum);
-    io::write_all(STDOUT_FILENO, b"\n");
+fn line(rt: &impl Print, sum: u64) {
+    let _ = println!(rt; "{sum}");
 }
 
-fn time_runs(header: &[u8; 40], file: &[u8], arguments: &[u8]) {
+fn time_runs(rt: &impl Print, header: &[u8; 40], file: &[u8], arguments: &[u8]) {
     let cells = long_at(header, 24) as usize;
     let stack = long_at(header, 28) as usize;
     let frames = long_at(header, 32) as usize / 3;
@@ -122,11 +120,11 @@ fn time_runs(header: &[u8; 40], file: &[u8], arguments: &[u8]) {
         &mut lent_out[0..out],
         long_at(header, 4),
     );
-    line(sum);
+    line(rt, sum);
 }
 
 // Cons and nil are the low bytes of their numbers.
-fn time_surveys(header: &[u8; 40], text: &[u8], table: &[u8]) {
+fn time_surveys(rt: &impl Print, header: &[u8; 40], text: &[u8], table: &[u8]) {
     let out = long_at(header, 36) as usize;
     if 65536 < out {
         return;
@@ -140,34 +138,44 @@ fn time_surveys(header: &[u8; 40], text: &[u8], table: &[u8]) {
         &mut lent_out[0..out],
         long_at(header, 4),
     );
-    line(sum);
+    line(rt, sum);
 }
 
-fn do_job(header: &[u8; 40], file: &[u8], arguments: &[u8]) {
+fn do_job(rt: &impl Print, header: &[u8; 40], file: &[u8], arguments: &[u8]) {
     let mode = long_at(header, 0);
     if mode == 1 {
-        line(checks(file, long_at(header, 4)));
+        line(rt, checks(file, long_at(header, 4)));
         return;
     }
     if mode == 3 {
-        time_surveys(header, file, arguments);
+        time_surveys(rt, header, file, arguments);
         return;
     }
-    time_runs(header, file, arguments);
+    time_runs(rt, header, file, arguments);
 }
 
-fn read_and_do(header: &[u8; 40], file: &mut [u8], arguments: &mut [u8]) {
-    io::read_full(STDIN_FILENO, file);
-    io::read_full(STDIN_FILENO, arguments);
-    do_job(header, file, arguments);
+// Bytes of standard input, as many as the buffer has. Where there are fewer, the rest of it stays as it is.
+fn read_full(rt: &impl Input, buffer: &mut [u8]) {
+    let _ = rt.reader().read_exact(buffer);
+}
+
+fn read_and_do(
+    rt: &(impl Input + Print),
+    header: &[u8; 40],
+    file: &mut [u8],
+    arguments: &mut [u8],
+) {
+    read_full(rt, file);
+    read_full(rt, arguments);
+    do_job(rt, header, file, arguments);
 }
 
 // The longest texts and tables of the jobs are longer than programs and arguments can be.
-fn main() {
+fn main(rt: HostRuntime) {
     let mut header = [0u8; 40];
     let mut file = [0u8; 131072];
     let mut arguments = [0u8; 70304];
-    io::read_full(STDIN_FILENO, &mut header);
+    read_full(&rt, &mut header);
     let n = long_at(&header, 8) as usize;
     let m = long_at(&header, 12) as usize;
     if 131072 < n {
@@ -176,5 +184,5 @@ fn main() {
     if 70304 < m {
         return;
     }
-    read_and_do(&header, &mut file[0..n], &mut arguments[0..m]);
+    read_and_do(&rt, &header, &mut file[0..n], &mut arguments[0..m]);
 }

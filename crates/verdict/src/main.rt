@@ -8,8 +8,7 @@ ghost use Rattle.rules.specs.Check.{verdict_of};
 ghost use Rattle.rules.specs.Memory.{front_written};
 ghost use Rattle.report.specs.Line.{verdict_line};
 
-use intake::read_input;
-use libc::{STDERR_FILENO, STDOUT_FILENO};
+use intake::{has_words, read_input, write_output};
 use report::line::write_verdict;
 
 // The line of the verdict on a program, at the front of a buffer. The answer is its length.
@@ -21,26 +20,23 @@ fn tell(file: &[u8], line: &mut [u8; 72]) -> usize
     write_verdict(verifier::check(file), line)
 }
 
-fn judge() {
+fn judge(rt: &(impl Input + Print + Eprint)) {
     let mut buffer = [0u8; 32769];
-    let input = read_input(&mut buffer);
+    let input = read_input(rt, &mut buffer);
     if !input.read {
-        os::fail(b"standard input");
         return;
     }
     let n = input.count;
     let mut line = [0u8; 72];
     let count = tell(&buffer[..n], &mut line);
-    if !io::write_all(STDOUT_FILENO, &line[..count]) {
-        os::fail(b"standard output");
-    }
+    write_output(rt, &line[..count]);
 }
 
 // It takes no words: whoever names a file would wait for standard input.
-fn main() {
-    if 1 < os::arg_count() {
-        io::write_all(STDERR_FILENO, b"usage: verdict <FILE\n");
+fn main(rt: HostRuntime) {
+    if has_words(&rt) {
+        let _ = eprintln!(rt; "usage: verdict <FILE");
         return;
     }
-    judge();
+    judge(&rt);
 }
