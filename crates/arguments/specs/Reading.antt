@@ -1,6 +1,6 @@
 -- The argument check: the types still to be read stand in an array of 256, from a place on, the next one first.
-use Rattle.std.specs.Prelude.{◌≡◌, List, ℕ, ◌+◌, ◌≤◌, length, drop, eqb}
-use Rattle.rules.specs.Base.{refusal, Tried, found, refused, byte_at, if◌then◌else◌}
+use Rattle.std.specs.Prelude.{if◌then◌else◌, ◌≡◌, List, ℕ, ◌+◌, ◌≤◌, length, drop, eqb}
+use Rattle.rules.specs.Base.{refusal, Tried, found, refused, byte_at}
 use Rattle.rules.specs.Program.{Program}
 use Rattle.rules.specs.Prefix.{read_byte}
 

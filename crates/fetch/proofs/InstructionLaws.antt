@@ -1,4 +1,5 @@
 -- What the instruction at a place says, from its record and from its record's number.
+use Rattle.std.specs.Prelude.{if◌then◌else◌}
 use Prim.Native.Nat.{ℕ, ◌+◌, ◌-◌, ◌/◌, ◌%◌, ◌≤◌, ◌<◌}
 use mathlib.Core.Path.{◌≡◌, refl, sym, ap, ◌∙◌}
 use mathlib.Core.List.{List}
@@ -11,7 +12,7 @@ use borrow.Author.Tests.{ne_eqb}
 use Rattle.rules.specs.declared.records.InstructionRecord.{InstructionRecord}
 use Rattle.rules.specs.declared.records.Instruction.{Instruction}
 use Rattle.rules.specs.declared.records.Instruction.TheVariants.{Load, Build, Call, Branch, Return, Stop}
-use Rattle.rules.specs.Base.{byte_at, word_at, is_zero, if◌then◌else◌}
+use Rattle.rules.specs.Base.{byte_at, word_at, is_zero}
 use Rattle.rules.specs.Container.{payload}
 use Rattle.rules.specs.Records.{instruction_at, operation, instruction_of, is_some, or_else, program_in}
 use Rattle.rules.specs.There.{RecordsThere}

@@ -1,4 +1,5 @@
 -- Laws of the flow pass: each part of an instruction's rule, and what a slot holds of the paths that arrived.
+use Rattle.std.specs.Prelude.{if◌then◌else◌}
 use mathlib.Core.Path.{◌≡◌, refl, sym, ap, ◌∙◌, subst}
 use mathlib.Core.List.{List, [], ◌∷◌, ◌++◌}
 use mathlib.Core.Option.{Option, none, some}
@@ -13,7 +14,7 @@ use lib.Dec.{ltb, eqb}
 use borrow.Author.Tests.{lt-ltb, le-ltb, le-leb, lt-leb, ne_eqb, eqb-true, eqb-false, not-true, not-false}
 use Rattle.rules.specs.declared.records.Instruction.{Instruction}
 use Rattle.rules.specs.declared.records.Instruction.TheVariants.{Load, Build, Call, Branch, Return, Stop}
-use Rattle.rules.specs.Base.{Tried, found, refused, refusal, Check, passed, require, for_each, if◌then◌else◌}
+use Rattle.rules.specs.Base.{Tried, found, refused, refusal, Check, passed, require, for_each}
 use Rattle.rules.specs.Records.{or_else, function_of}
 use Rattle.rules.specs.Stacks.{slot}
 use Rattle.rules.specs.Walk.{targets, hits, sources, first, arriving_from, arrivals, Arrow, arriving, root_at, arrow_to}

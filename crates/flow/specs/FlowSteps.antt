@@ -1,7 +1,7 @@
 -- What the flow pass keeps of the paths that arrive at an instruction, and what its answers say.
-use Rattle.std.specs.Prelude.{◌≡◌, List, ◌++◌, Bool, true, false, not, ℕ, ◌≤◌, eqb}
+use Rattle.std.specs.Prelude.{if◌then◌else◌, ◌≡◌, List, ◌++◌, Bool, true, false, not, ℕ, ◌≤◌, eqb}
 use Rattle.std.proofs.Math.Option.{Option, some}
-use Rattle.rules.specs.Base.{Tried, found, if◌then◌else◌}
+use Rattle.rules.specs.Base.{Tried, found}
 use Rattle.rules.specs.Walk.{Arrow, arrow_to}
 use Rattle.flow.specs.declared.FlowStep.{FlowStep}
 

@@ -1,4 +1,5 @@
 -- What is written of a survey passes the argument check and is the list of the lines' codes.
+use Rattle.std.specs.Prelude.{if◌then◌else◌}
 use mathlib.Core.Path.{◌≡◌, refl, subst, ◌∙◌}
 use mathlib.Core.List.{List, [], ◌∷◌, ◌++◌}
 use mathlib.Core.Option.{none, some}
@@ -9,7 +10,7 @@ use lib.ListN.{length}
 use lib.Dec.{leb, eqb}
 use borrow.Author.Tests.{le-leb, eq-eqb, ne_eqb}
 use Rattle.rules.specs.Answers.{length_of, length_words}
-use Rattle.rules.specs.Base.{Refusal, refusal, Tried, found, refused, passed, ◌>>=◌, require, if◌then◌else◌, byte_at}
+use Rattle.rules.specs.Base.{Refusal, refusal, Tried, found, refused, passed, ◌>>=◌, require, byte_at}
 use Rattle.rules.specs.Lines.{entries, table_right, same_letters, lookup, leading, text_lines, line_right, code, codes, list_of, in_room, lines_of}
 use Rattle.rules.specs.Lists.{All, l[], ◌l∷◌, All2, a[], ◌a∷◌}
 use Rattle.rules.specs.Prefix.{read_byte, read_bytes, arguments_right, arity_of, values}

@@ -1,4 +1,5 @@
 -- The survey lines are turned into a list, or refused, as the rules of 19, 20 and 13 in the words of ticket 1 say.
+use Rattle.std.specs.Prelude.{if◌then◌else◌}
 use mathlib.Core.Path.{◌≡◌, refl, sym, ap, ◌∙◌}
 use mathlib.Core.List.{List, [], ◌∷◌, ◌++◌, append-nil}
 use mathlib.Core.Option.{Option, none, some}
@@ -11,7 +12,7 @@ use native.Mathlib.Numerals.{add-one}
 use lib.ListN.{length, take}
 use lib.Dec.{leb, eqb}
 use borrow.Author.Tests.{eqb-true, eqb-false, leb-true, leb-false, le-leb, lt-leb}
-use Rattle.rules.specs.Base.{Refusal, refusal, found, refused, all, if◌then◌else◌}
+use Rattle.rules.specs.Base.{Refusal, refusal, found, refused, all}
 use Rattle.rules.specs.Lines.{capital, letters_right, entries, table_right, same_letters, lookup, text_lines, code, codes}
 use Rattle.rules.specs.Lines.{list_of, in_room, lines_of}
 use Rattle.rules.specs.Lists.{l[], All, ◌l∷◌, a[], ◌a∷◌}

@@ -1,4 +1,5 @@
 -- The marks of a table's entries, made from the last entry to the first.
+use Rattle.std.specs.Prelude.{if◌then◌else◌}
 use mathlib.Core.Path.{◌≡◌, refl, sym, ◌∙◌}
 use mathlib.Core.List.{List, [], ◌∷◌}
 use mathlib.Core.Option.{some}
@@ -8,7 +9,7 @@ use native.Mathlib.Omega.{arith}
 use lib.ListN.{length, take, drop, get_or, set, replicate, length-set, length-replicate}
 use lib.Seq.{get_or-take, get_or-set_same, get_or-set_other}
 use lib.Dec.{eqb}
-use Rattle.rules.specs.Base.{byte_at, if◌then◌else◌}
+use Rattle.rules.specs.Base.{byte_at}
 use Rattle.rules.specs.Lines.{letters_right, entries, same_letters, lookup}
 use Rattle.rules.proofs.ListLaws.{eqb_iff, false_true}
 use Rattle.lines.specs.Marks.{number, mark_of, Marked}

@@ -1,4 +1,5 @@
 -- The text: a line that is right has four bytes, so the lines are read four bytes at a time.
+use Rattle.std.specs.Prelude.{if◌then◌else◌}
 use mathlib.Core.Path.{◌≡◌, refl, sym, ap, ◌∙◌}
 use mathlib.Core.List.{List, [], ◌∷◌, ◌++◌}
 use mathlib.Core.Option.{Option, none, some}
@@ -9,7 +10,7 @@ use lib.ListN.{length, take, drop, length-take, length-drop}
 use lib.Seq.{take_at}
 use lib.Dec.{eqb}
 use borrow.Author.Tests.{ne_eqb}
-use Rattle.rules.specs.Base.{refusal, Tried, found, refused, ◌>>=◌, only, if◌then◌else◌, byte_at}
+use Rattle.rules.specs.Base.{refusal, Tried, found, refused, ◌>>=◌, only, byte_at}
 use Rattle.rules.specs.Lines.{letters_right, lookup, leading, text_lines, line_right, code, codes}
 use Rattle.rules.proofs.ListLaws.{none_some, and_left, and_right, eqb_iff, false_true}
 use Rattle.rules.proofs.TriedLaws.{refused_found, found_inj, bind_found}

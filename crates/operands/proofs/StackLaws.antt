@@ -1,4 +1,5 @@
 -- Laws of the types of a stack: one type more, several more, and the end of a stack.
+use Rattle.std.specs.Prelude.{if◌then◌else◌}
 use mathlib.Core.Path.{◌≡◌, refl, sym, ap, ◌∙◌}
 use mathlib.Core.List.{List, [], ◌++◌, append_assoc, append-nil}
 use mathlib.Core.Option.{Option, none, some}
@@ -12,7 +13,7 @@ use lib.Seq.{drop-cons, length-take-le, get_or-take, take-suc, take-suc-set, tak
 use lib.Dec.{leb, eqb}
 use borrow.Author.Tests.{le-leb, lt-leb, eq-eqb, ne_eqb, not-true, not-false, leb-true}
 use Rattle.rules.specs.declared.records.Declaration.{Declaration}
-use Rattle.rules.specs.Base.{found, refused, refusal, require, or_refuse, ◌>>=◌, if◌then◌else◌}
+use Rattle.rules.specs.Base.{found, refused, refusal, require, or_refuse, ◌>>=◌}
 use Rattle.rules.specs.Program.{Function, Program}
 use Rattle.rules.specs.Records.{arguments_of}
 use Rattle.rules.specs.Stacks.{split, push}

@@ -1,7 +1,7 @@
 -- The types of a stack as the type pass keeps them, and what its answers say.
-use Rattle.std.specs.Prelude.{◌≡◌, List, [], ◌∷◌, ◌++◌, Bool, true, false, ◌&&◌, ℕ, ◌-◌, ◌≤◌, length, take, drop, leb}
+use Rattle.std.specs.Prelude.{if◌then◌else◌, ◌≡◌, List, [], ◌∷◌, ◌++◌, Bool, true, false, ◌&&◌, ℕ, ◌-◌, ◌≤◌, length, take, drop, leb}
 use Rattle.std.proofs.Math.Option.{Option, none, some}
-use Rattle.rules.specs.Base.{Tried, found, refused, refusal, ◌>>=◌, if◌then◌else◌}
+use Rattle.rules.specs.Base.{Tried, found, refused, refusal, ◌>>=◌}
 use Rattle.rules.specs.Program.{Function, Program}
 use Rattle.rules.specs.Records.{arguments_of}
 use Rattle.rules.specs.Walk.{Arrow, arrow_to}

@@ -1,4 +1,5 @@
 -- What an expression comes to, with a price for each unit of weight and one for each variable; and where a variable is replaced.
+use Rattle.std.specs.Prelude.{if◌then◌else◌}
 use mathlib.Core.Path.{◌≡◌, refl, ap}
 use mathlib.Core.List.{List, [], ◌∷◌, map}
 use mathlib.Core.Bool.{Bool, true, false}
@@ -6,7 +7,6 @@ use Prim.Native.Nat.{ℕ, zero, suc, ◌+◌, ◌*◌, ◌≤◌, ◌<◌, zero-
 use native.Mathlib.Omega.{arith}
 use lib.Dec.{eqb}
 use borrow.Author.Tests.{eqb-true, eq-eqb, ne_eqb}
-use Rattle.rules.specs.Base.{if◌then◌else◌}
 use Rattle.rules.specs.Program.{Program, constructor, weight_of}
 use Rattle.rules.specs.Tree.{Trees, node, nil, cons, from_list}
 use Rattle.rules.specs.Expressions.{Symbol, variable, known, built, called, Expression, variables, replace, replace_all}

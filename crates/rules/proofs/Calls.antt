@@ -1,4 +1,5 @@
 -- At a branch no call's result is on the stack: none has been passed on the path.
+use Rattle.std.specs.Prelude.{if◌then◌else◌}
 use mathlib.Core.Path.{◌≡◌, refl, sym, ap, ◌∙◌}
 use mathlib.Core.List.{List, [], ◌∷◌, ◌++◌}
 use mathlib.Core.Option.{Option, some}
@@ -10,7 +11,7 @@ use lib.ListN.{length}
 use lib.Dec.{eqb}
 use Rattle.rules.specs.declared.records.Instruction.{Instruction}
 use Rattle.rules.specs.declared.records.Instruction.TheVariants.{Load, Build, Call, Branch, Return, Stop}
-use Rattle.rules.specs.Base.{found, if◌then◌else◌}
+use Rattle.rules.specs.Base.{found}
 use Rattle.rules.specs.Program.{Function, Program, arity}
 use Rattle.rules.specs.Tree.{node, to_list, made}
 use Rattle.rules.specs.Stacks.{slot}

@@ -1,4 +1,5 @@
 -- The flow pass says of each function just what the relations of specs/FlowRules.antt say.
+use Rattle.std.specs.Prelude.{if◌then◌else◌}
 use mathlib.Core.Path.{◌≡◌, refl, sym, ap, ◌∙◌}
 use mathlib.Core.List.{List, [], ◌∷◌, ◌++◌}
 use mathlib.Core.Option.{some}
@@ -12,7 +13,7 @@ use lib.Dec.{eqb}
 use borrow.Author.Tests.{eqb-false, eq-eqb, le-leb, lt-ltb, ltb-true}
 use Rattle.rules.specs.declared.records.Instruction.{Instruction}
 use Rattle.rules.specs.declared.records.Instruction.TheVariants.{Load, Build, Call, Branch, Return, Stop}
-use Rattle.rules.specs.Base.{Refusal, refusal, found, refused, passed, if◌then◌else◌, Decides}
+use Rattle.rules.specs.Base.{Refusal, refusal, found, refused, passed, Decides}
 use Rattle.rules.specs.Lists.{All, l[], ◌l∷◌}
 use Rattle.rules.specs.Program.{Function}
 use Rattle.rules.specs.Records.{or_else}

@@ -1,4 +1,5 @@
 -- The machine over heap cells steps as the machine over the values that they stand for.
+use Rattle.std.specs.Prelude.{if◌then◌else◌}
 use mathlib.Core.Path.{◌≡◌, refl, sym, ap, ap₂, ◌∙◌}
 use mathlib.Core.List.{List, [], ◌∷◌, ◌++◌, map}
 use mathlib.Core.Option.{Option, some}
@@ -10,7 +11,6 @@ use lib.Dec.{eqb}
 use borrow.Author.Tests.{ltb-false, lt-ltb, le-ltb}
 use Rattle.rules.specs.declared.records.Instruction.{Instruction}
 use Rattle.rules.specs.declared.records.Instruction.TheVariants.{Load, Build, Call, Branch, Return, Stop}
-use Rattle.rules.specs.Base.{if◌then◌else◌}
 use Rattle.rules.specs.Lists.{All, l[], ◌l∷◌}
 use Rattle.rules.specs.Program.{Program, constructor, function}
 use Rattle.rules.specs.Tree.{made, label, arguments}

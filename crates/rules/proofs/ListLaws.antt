@@ -1,4 +1,5 @@
 -- Laws of All, Any and All2, of the ways of a stack to be read and cut, and of tests.
+use Rattle.std.specs.Prelude.{if◌then◌else◌}
 use mathlib.Core.Path.{◌≡◌, refl, sym, ap, ◌∙◌}
 use mathlib.Core.List.{List, [], ◌∷◌, ◌++◌, map}
 use mathlib.Core.Option.{Option, none, some}
@@ -11,7 +12,7 @@ use lib.ListN.{length, take, drop, get_elem?, get_or, set, length-drop, take-app
 use lib.Seq.{sets, get_or-set_same, get_or-set_other}
 use lib.Dec.{leb, ltb, eqb}
 use borrow.Author.Tests.{leb-true, le-leb, ltb-true, lt-ltb, eqb-true, eqb-false, eq-eqb}
-use Rattle.rules.specs.Base.{is_zero, all, any, if◌then◌else◌}
+use Rattle.rules.specs.Base.{is_zero, all, any}
 use Rattle.rules.specs.Stacks.{slot, split}
 use Rattle.rules.specs.Lists.{All, l[], ◌l∷◌, Any, here, there, All2, a[], ◌a∷◌}
 

@@ -1,4 +1,5 @@
 -- A function over the elements of stacks: what is read of the mapped stack is what is read of the stack, mapped.
+use Rattle.std.specs.Prelude.{if◌then◌else◌}
 use mathlib.Core.Path.{◌≡◌, refl, ap, ap₂}
 use mathlib.Core.List.{List, [], ◌∷◌, ◌++◌, map}
 use mathlib.Core.Option.{Option, none, some}
@@ -6,7 +7,6 @@ use mathlib.Core.Bool.{Bool, true, false}
 use Prim.Native.Nat.{ℕ, zero, suc, ◌-◌}
 use lib.ListN.{length, take, drop, get_elem?, length-map}
 use lib.Dec.{leb}
-use Rattle.rules.specs.Base.{if◌then◌else◌}
 use Rattle.rules.specs.Lists.{All, l[], ◌l∷◌}
 use Rattle.rules.specs.Stacks.{slot, split}
 use Rattle.rules.specs.Machine.{◌>>=◌}

@@ -1,4 +1,5 @@
 -- When a value is what an expression says, given values for the variables. A call stands for any value within the function's bound.
+use Rattle.std.specs.Prelude.{if◌then◌else◌}
 use mathlib.Core.Path.{◌≡◌, refl, sym, ap, ◌∙◌}
 use mathlib.Core.List.{List, [], ◌∷◌, ◌++◌, map, append_assoc}
 use mathlib.Core.Option.{some}
@@ -9,7 +10,6 @@ use native.Mathlib.Nat.{le_trans, le_of_eq}
 use lib.ListN.{length, get_or, get_elem?, replicate, length-map, length-append}
 use lib.Dec.{eqb}
 use borrow.Author.Tests.{eqb-true}
-use Rattle.rules.specs.Base.{if◌then◌else◌}
 use Rattle.rules.specs.Program.{Constructor, Function, Program, constructor, function}
 use Rattle.rules.specs.Tree.{Tree, Trees, node, nil, cons, to_list, from_list}
 use Rattle.rules.specs.Machine.{Value}

@@ -1,4 +1,5 @@
 -- The tally promise: the run goes through the machine's states, and what it answers is told by the state at which it ends.
+use Rattle.std.specs.Prelude.{if◌then◌else◌}
 use mathlib.Core.Path.{◌≡◌, refl, sym, ap, ◌∙◌}
 use mathlib.Core.List.{List, [], ◌∷◌, ◌++◌}
 use mathlib.Core.Option.{Option, none, some}
@@ -10,7 +11,7 @@ use native.Mathlib.Nat.{add-zero}
 use lib.ListN.{length}
 use lib.Dec.{leb, eqb}
 use borrow.Author.Tests.{leb-true, leb-false}
-use Rattle.rules.specs.Base.{Refusal, refusal, found, refused, Check, passed, if◌then◌else◌}
+use Rattle.rules.specs.Base.{Refusal, refusal, found, refused, Check, passed}
 use Rattle.rules.specs.Program.{Function, Program, constructor, function}
 use Rattle.rules.specs.Machine.{Value, State, start, step, after, result_of}
 use Rattle.rules.specs.Values.{size, Has, Typed}

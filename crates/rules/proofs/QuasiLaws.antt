@@ -1,4 +1,5 @@
 -- 001's inequality of sizes from the cover test: what an expression comes to is under its form, and over it where nothing is called.
+use Rattle.std.specs.Prelude.{if◌then◌else◌}
 use mathlib.Core.Path.{◌≡◌, refl, sym, ap, ◌∙◌}
 use mathlib.Core.List.{List, [], ◌∷◌, map, ◌++◌}
 use mathlib.Core.Option.{some}
@@ -11,7 +12,7 @@ use lib.Dec.{leb, eqb}
 use borrow.Author.Tests.{leb-true, leb-false}
 use Rattle.rules.specs.declared.records.Alternative.{Alternative}
 use Rattle.rules.specs.declared.records.Instruction.{Instruction}
-use Rattle.rules.specs.Base.{found, if◌then◌else◌}
+use Rattle.rules.specs.Base.{found}
 use Rattle.rules.specs.Lists.{All, l[], ◌l∷◌, here, there, All2, a[], ◌a∷◌}
 use Rattle.rules.specs.Program.{Constructor, Function, Program, arity, constructor, function}
 use Rattle.rules.specs.Tree.{Trees, node, nil, cons, to_list, from_list, made}

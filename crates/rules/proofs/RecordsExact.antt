@@ -1,4 +1,5 @@
 -- The pass for 4 agrees with document 01's words for it on every payload.
+use Rattle.std.specs.Prelude.{if◌then◌else◌}
 use mathlib.Core.Path.{◌≡◌, refl, subst}
 use mathlib.Core.List.{List}
 use mathlib.Core.Option.{Option, none, some}
@@ -12,7 +13,7 @@ use Rattle.rules.specs.declared.records.Header.{Header}
 use Rattle.rules.specs.declared.records.InstructionRecord.{InstructionRecord}
 use Rattle.rules.specs.declared.records.Instruction.{Instruction}
 use Rattle.rules.specs.declared.records.Instruction.TheVariants.{Branch}
-use Rattle.rules.specs.Base.{Refusal, Check, if◌then◌else◌, is_zero, for_each}
+use Rattle.rules.specs.Base.{Refusal, Check, is_zero, for_each}
 use Rattle.rules.specs.Base.{byte_at, word_at}
 use Rattle.rules.specs.Records.{four_at, header_at, declaration_at, constructor_at, head_at, alternative_at, instruction_at, past_zero}
 use Rattle.rules.specs.Records.{header_right, declaration_right, constructor_right, head_right, alternative_right, operation, is_some}

@@ -1,4 +1,5 @@
 -- The pass for 10 and 9 says of each function just what Table 3 and the cover test say.
+use Rattle.std.specs.Prelude.{if◌then◌else◌}
 use mathlib.Core.Path.{◌≡◌, refl, sym, ap, ◌∙◌}
 use mathlib.Core.List.{List, [], ◌∷◌, ◌++◌, map}
 use mathlib.Core.Option.{Option, none, some}
@@ -12,7 +13,7 @@ use lib.Dec.{leb, eqb}
 use borrow.Author.Tests.{eqb-true, eqb-false, leb-false, le-leb}
 use Rattle.rules.specs.declared.records.Instruction.{Instruction}
 use Rattle.rules.specs.declared.records.Instruction.TheVariants.{Load, Build, Call, Branch, Return, Stop}
-use Rattle.rules.specs.Base.{Refusal, refusal, found, refused, Check, passed, if◌then◌else◌, Decides}
+use Rattle.rules.specs.Base.{Refusal, refusal, found, refused, Check, passed, Decides}
 use Rattle.rules.specs.Lists.{All, l[], ◌l∷◌}
 use Rattle.rules.specs.Program.{Constructor, Function, Program, arity, constructor}
 use Rattle.rules.specs.Tree.{Trees, node, to_list, made, from_list}

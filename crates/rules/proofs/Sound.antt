@@ -1,5 +1,6 @@
 -- The second storey of soundness: where sizes are right too, every entry on a frame's stack stands for its value, and no value passes the
 -- bound at the arguments that its function was called with.
+use Rattle.std.specs.Prelude.{if◌then◌else◌}
 use mathlib.Core.Path.{◌≡◌, refl, sym, ap, ◌∙◌}
 use mathlib.Core.List.{List, [], ◌∷◌, ◌++◌, map}
 use mathlib.Core.Option.{Option, some}
@@ -10,7 +11,7 @@ use lib.Dec.{eqb}
 use borrow.Author.Tests.{eqb-true, eqb-false}
 use Rattle.rules.specs.declared.records.Instruction.{Instruction}
 use Rattle.rules.specs.declared.records.Instruction.TheVariants.{Load, Build, Call, Branch, Return, Stop}
-use Rattle.rules.specs.Base.{found, if◌then◌else◌}
+use Rattle.rules.specs.Base.{found}
 use Rattle.rules.specs.Lists.{All, All2, a[], ◌a∷◌}
 use Rattle.rules.specs.Program.{Constructor, Function, Program, arity, constructor, function}
 use Rattle.rules.specs.Tree.{Trees, node, to_list, from_list, made}

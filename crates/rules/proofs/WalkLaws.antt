@@ -1,5 +1,6 @@
 -- The states along the arrows: what stands at an instruction is what its one origin hands on, so the states hold of every instruction at
 -- once.
+use Rattle.std.specs.Prelude.{if◌then◌else◌}
 use mathlib.Core.Path.{◌≡◌, refl, sym, ap, ◌∙◌}
 use mathlib.Core.List.{List, [], ◌∷◌, ◌++◌, append_assoc, append-nil}
 use mathlib.Core.Option.{Option, none, some}
@@ -12,7 +13,7 @@ use lib.ListN.{length, take, get_or, get_elem?, replicate, length-append, length
 use lib.Dec.{eqb, leb}
 use borrow.Author.Tests.{eq-eqb, eqb-true, ne_eqb, leb-true, leb-false}
 use Rattle.rules.specs.declared.records.Instruction.{Instruction}
-use Rattle.rules.specs.Base.{Refusal, Tried, found, refused, Check, passed, if◌then◌else◌}
+use Rattle.rules.specs.Base.{Refusal, Tried, found, refused, Check, passed}
 use Rattle.rules.specs.Lists.{All, l[], ◌l∷◌, Any, here, there}
 use Rattle.rules.specs.Stacks.{slot, push}
 use Rattle.rules.specs.Walk.{targets, hits, sources, first, arriving_from, arrivals, origin, Arrow, arriving, brought_to, root_at}

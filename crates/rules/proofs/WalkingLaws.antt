@@ -1,5 +1,6 @@
 -- The loop of a pass over a function's code: a slot for each instruction holds the state that the instructions before it have handed on to
 -- it. One instruction more is two stores, of which slot 0 takes those that are none.
+use Rattle.std.specs.Prelude.{if◌then◌else◌}
 use mathlib.Core.Path.{◌≡◌, refl, sym, ap, ◌∙◌}
 use mathlib.Core.List.{List, [], ◌∷◌, ◌++◌}
 use mathlib.Core.Option.{Option, none, some}
@@ -12,7 +13,7 @@ use lib.Seq.{get_or-set_same, get_or-set_other}
 use lib.Dec.{eqb, leb}
 use borrow.Author.Tests.{eqb-true, eqb-false, leb-true, le-leb, lt-leb, ne_eqb, leb-false}
 use Rattle.rules.specs.declared.records.Instruction.{Instruction}
-use Rattle.rules.specs.Base.{Tried, found, Check, numbered, for_each, if◌then◌else◌, each}
+use Rattle.rules.specs.Base.{Tried, found, Check, numbered, for_each, each}
 use Rattle.rules.specs.Stacks.{slot}
 use Rattle.rules.specs.Walk.{targets, hits, origin, first, Arrow, arriving, root_at, or_root, handed, from_origin, state_from, state_at}
 use Rattle.rules.specs.Walk.{along, arrow_to}

@@ -1,5 +1,5 @@
 -- What the code's answers say, in the numbers and places of documents 01 and 02: `refusal_of` is the one definition of them.
-use Rattle.std.specs.Prelude.{List, [], ◌∷◌, ◌++◌, ℕ, length, get_or, leb}
+use Rattle.std.specs.Prelude.{if◌then◌else◌, List, [], ◌∷◌, ◌++◌, ℕ, length, get_or, leb}
 use Rattle.rules.specs.declared.answers.Place.{Place}
 use Rattle.rules.specs.declared.answers.Reason.{Reason}
 use Rattle.rules.specs.declared.answers.Reason.TheVariants as reason
@@ -13,7 +13,7 @@ use Rattle.rules.specs.declared.answers.Checked.TheVariants as rule
 use Rattle.rules.specs.declared.answers.Ending as ending
 use Rattle.rules.specs.declared.answers.Ending.TheVariants as ends
 use Rattle.rules.specs.declared.answers.Answer as answers
-use Rattle.rules.specs.Base.{Refusal, refusal, Tried, found, refused, Check, passed, if◌then◌else◌}
+use Rattle.rules.specs.Base.{Refusal, refusal, Tried, found, refused, Check, passed}
 use Rattle.rules.specs.Container.{bytes4}
 use Rattle.rules.specs.Memory.{front_written}
 use Rattle.rules.specs.Run.{Ending, finished, aborted, refused_with, Answer, answer}

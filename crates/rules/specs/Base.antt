@@ -46,11 +46,6 @@ abbrev pub only : {A : Type 0} → Tried A → Check
 only (found a) = passed
 only (refused r) = refused r
 
-infix 20 if◌then◌else◌
-abbrev pub if◌then◌else◌ : {A : Type 0} → Bool → A → A → A
-if true then a else b = a
-if false then a else b = b
-
 ---- Numbered things
 
 -- f k, f (k + 1), .., n of them

@@ -1,6 +1,5 @@
 -- Expressions and substitution, in which 001 describes what stands on a stack. 001, sections 2 and 5.
-use Rattle.std.specs.Prelude.{List, [], ◌∷◌, ℕ, zero, suc, eqb}
-use Rattle.rules.specs.Base.{if◌then◌else◌}
+use Rattle.std.specs.Prelude.{if◌then◌else◌, List, [], ◌∷◌, ℕ, zero, suc, eqb}
 use Rattle.rules.specs.Tree.{Tree, Trees, node, nil, cons}
 
 -- e ::= x | c(e, .., e) | f(e, .., e): a variable, or a constructor or a function over expressions. A constructor is known by a split, or

@@ -1,7 +1,7 @@
 -- Survey lines: the logger's text as a list argument. Document 02, ticket 1.
-use Rattle.std.specs.Prelude.{List, [], ◌∷◌, Bool, not, ◌&&◌, ℕ, zero, suc, ◌/◌, ◌%◌, length, take, drop, leb, eqb}
+use Rattle.std.specs.Prelude.{if◌then◌else◌, List, [], ◌∷◌, Bool, not, ◌&&◌, ℕ, zero, suc, ◌/◌, ◌%◌, length, take, drop, leb, eqb}
 use Rattle.std.proofs.Math.Option.{Option, none, some}
-use Rattle.rules.specs.Base.{refusal, Tried, found, ◌>>=◌, require, or_refuse, if◌then◌else◌, within, is_zero, all, byte_at}
+use Rattle.rules.specs.Base.{refusal, Tried, found, ◌>>=◌, require, or_refuse, within, is_zero, all, byte_at}
 
 ---- "The panel lends a table of four-byte entries (three letters, constructor)"
 

@@ -1,9 +1,8 @@
 -- The machine. Document 01, "The machine"; 001, Table 1. It has no limits.
-use Rattle.std.specs.Prelude.{List, [], ◌∷◌, ◌++◌, ℕ, zero, suc, length, eqb}
+use Rattle.std.specs.Prelude.{if◌then◌else◌, List, [], ◌∷◌, ◌++◌, ℕ, zero, suc, length, eqb}
 use Rattle.std.proofs.Math.Option.{Option, none, some}
 use Rattle.rules.specs.declared.records.Instruction.{Instruction}
 use Rattle.rules.specs.declared.records.Instruction.TheVariants.{Load, Build, Call, Branch, Return, Stop}
-use Rattle.rules.specs.Base.{if◌then◌else◌}
 use Rattle.rules.specs.Program.{Program, constructor, function}
 use Rattle.rules.specs.Tree.{Tree, made, label, arguments}
 use Rattle.rules.specs.Stacks.{slot, split, push}

@@ -1,6 +1,6 @@
 -- The records of a payload: where each stands, its bytes, whether its fields are in range (4), and what it says.
 -- Document 01, "Payload, in order" and number 4.
-use Rattle.std.specs.Prelude.{List, [], ◌∷◌, Bool, true, false, ◌&&◌, ℕ, zero, suc, ◌+◌, ◌*◌, length, take, drop, leb, eqb}
+use Rattle.std.specs.Prelude.{if◌then◌else◌, List, [], ◌∷◌, Bool, true, false, ◌&&◌, ℕ, zero, suc, ◌+◌, ◌*◌, length, take, drop, leb, eqb}
 use Rattle.std.proofs.Math.Option.{Option, none, some}
 use Rattle.rules.specs.declared.records.Header.{Header}
 use Rattle.rules.specs.declared.records.Declaration.{Declaration}
@@ -11,7 +11,7 @@ use Rattle.rules.specs.declared.records.InstructionRecord.{InstructionRecord}
 use Rattle.rules.specs.declared.records.Alternative.{Alternative}
 use Rattle.rules.specs.declared.records.Instruction.{Instruction}
 use Rattle.rules.specs.declared.records.Instruction.TheVariants.{Load, Build, Call, Branch, Return, Stop}
-use Rattle.rules.specs.Base.{refusal, Tried, found, ◌>>=◌, Check, require, if◌then◌else◌, numbered, for_each, within, is_zero, all}
+use Rattle.rules.specs.Base.{refusal, Tried, found, ◌>>=◌, Check, require, numbered, for_each, within, is_zero, all}
 use Rattle.rules.specs.Base.{byte_at, word_at}
 use Rattle.rules.specs.Container.{payload}
 use Rattle.rules.specs.Program.{Constructor, Function, Program}

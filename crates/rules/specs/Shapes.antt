@@ -1,10 +1,10 @@
 -- The shape walk, with the cover test, 10, and the limits on variables and alternatives, 9. Document 01, "Shape"; 001, Table 3.
-use Rattle.std.specs.Prelude.{List, [], ◌∷◌, ◌++◌, map, Bool, ℕ, suc, ◌+◌, length, leb, eqb}
+use Rattle.std.specs.Prelude.{if◌then◌else◌, List, [], ◌∷◌, ◌++◌, map, Bool, ℕ, suc, ◌+◌, length, leb, eqb}
 use Rattle.std.proofs.Math.Option.{Option}
 use Rattle.rules.specs.declared.records.Alternative.{Alternative}
 use Rattle.rules.specs.declared.records.Instruction.{Instruction}
 use Rattle.rules.specs.declared.records.Instruction.TheVariants.{Load, Build, Call, Branch, Return, Stop}
-use Rattle.rules.specs.Base.{refusal, Tried, found, refused, ◌>>=◌, Check, require, or_refuse, if◌then◌else◌, each, all}
+use Rattle.rules.specs.Base.{refusal, Tried, found, refused, ◌>>=◌, Check, require, or_refuse, each, all}
 use Rattle.rules.specs.Program.{Function, Program, arity, constructor, function}
 use Rattle.rules.specs.Tree.{node, to_list, made}
 use Rattle.rules.specs.Stacks.{slot, split, push}

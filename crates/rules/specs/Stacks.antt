@@ -1,8 +1,7 @@
 -- Stacks of types, of expressions and of values: lists with the top last.
-use Rattle.std.specs.Prelude.{List, [], ◌∷◌, ◌++◌, ℕ, zero, suc, ◌-◌, length, take, drop, leb}
+use Rattle.std.specs.Prelude.{if◌then◌else◌, List, [], ◌∷◌, ◌++◌, ℕ, zero, suc, ◌-◌, length, take, drop, leb}
 use Rattle.std.proofs.Math.Option.{Option, none, some}
 use Rattle.std.proofs.Math.ListN.{get_elem?}
-use Rattle.rules.specs.Base.{if◌then◌else◌}
 
 module _ {A : Type 0} where
   -- slot k, "1 is the lowest"; an instruction of a function's code is found in the same way, from 1

@@ -1,10 +1,10 @@
 -- The states along the arrows of a function's flow graph, from its roots on: each instruction is judged in the state that arrives there.
 -- The passes for 7, 8 and for 10 and 9 judge so. Document 01, "Flow" and the order of "Numbers".
-use Rattle.std.specs.Prelude.{List, [], ◌∷◌, ◌++◌, ℕ, zero, suc, ◌+◌, ◌-◌, length, take, replicate, get_or, eqb}
+use Rattle.std.specs.Prelude.{if◌then◌else◌, List, [], ◌∷◌, ◌++◌, ℕ, zero, suc, ◌+◌, ◌-◌, length, take, replicate, get_or, eqb}
 use Rattle.std.proofs.Math.Option.{Option, none, some}
 use Rattle.rules.specs.declared.records.Instruction.{Instruction}
 use Rattle.rules.specs.declared.records.Instruction.TheVariants.{Load, Build, Call, Branch, Return, Stop}
-use Rattle.rules.specs.Base.{Tried, found, refused, Check, passed, only, each, if◌then◌else◌}
+use Rattle.rules.specs.Base.{Tried, found, refused, Check, passed, only, each}
 use Rattle.rules.specs.Stacks.{slot, push}
 
 ---- Who comes before whom

@@ -1,4 +1,5 @@
 -- The form of an expression with one put for a variable: the alternatives with its alternative put there.
+use Rattle.std.specs.Prelude.{if◌then◌else◌}
 use mathlib.Core.Path.{◌≡◌, refl, sym, ap, ◌∙◌}
 use mathlib.Core.List.{List, [], ◌∷◌, ◌++◌, map, map-append}
 use mathlib.Core.Bool.{Bool, true, false}
@@ -8,7 +9,6 @@ use lib.ListN.{length, replicate}
 use lib.Dec.{eqb}
 use borrow.Author.Tests.{eqb-true, eqb-false}
 use Rattle.rules.specs.declared.records.Alternative.{Alternative}
-use Rattle.rules.specs.Base.{if◌then◌else◌}
 use Rattle.rules.specs.Program.{constructor, function, Constructor, Function, Program}
 use Rattle.rules.specs.Tree.{Trees, node, nil, cons}
 use Rattle.rules.specs.Expressions.{Symbol, variable, known, built, called, Expression, replace, replace_all}

@@ -1,4 +1,5 @@
 -- One step of the walk: what each way through it says of what is left.
+use Rattle.std.specs.Prelude.{if◌then◌else◌}
 use mathlib.Core.Path.{◌≡◌, refl, sym, ap, ◌∙◌}
 use mathlib.Core.List.{List, [], ◌∷◌, ◌++◌}
 use mathlib.Core.Option.{some}
@@ -15,7 +16,7 @@ use Rattle.rules.specs.declared.answers.Reason.TheVariants.{TooManyForms}
 use Rattle.rules.specs.declared.records.Declaration.{Declaration}
 use Rattle.rules.specs.declared.records.Instruction.{Instruction}
 use Rattle.rules.specs.declared.records.Instruction.TheVariants.{Load, Branch}
-use Rattle.rules.specs.Base.{refusal, found, refused, if◌then◌else◌}
+use Rattle.rules.specs.Base.{refusal, found, refused}
 use Rattle.rules.specs.Container.{payload}
 use Rattle.rules.specs.Program.{Constructor, arity, constructor}
 use Rattle.rules.specs.Records.{declaration_at, constructor_offset, program_in, function_in}

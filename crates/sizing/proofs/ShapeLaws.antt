@@ -1,4 +1,5 @@
 -- The shape rules where the stack is variables: one law for each instruction.
+use Rattle.std.specs.Prelude.{if◌then◌else◌}
 use mathlib.Core.Path.{◌≡◌, refl, sym, ap, ◌∙◌}
 use mathlib.Core.List.{List, [], ◌∷◌, ◌++◌, map, map-append}
 use mathlib.Core.Bool.{true, false}
@@ -12,7 +13,7 @@ use lib.Dec.{eqb}
 use borrow.Author.Tests.{le-leb, lt-leb, eq-eqb, ne_eqb}
 use Rattle.rules.specs.declared.records.Instruction.{Instruction}
 use Rattle.rules.specs.declared.records.Instruction.TheVariants.{Load, Branch}
-use Rattle.rules.specs.Base.{refusal, found, refused, if◌then◌else◌}
+use Rattle.rules.specs.Base.{refusal, found, refused}
 use Rattle.rules.specs.Program.{constructor, Constructor, Function, Program, arity}
 use Rattle.rules.specs.Tree.{Trees, node, cons, from_list, made}
 use Rattle.rules.specs.Stacks.{split}

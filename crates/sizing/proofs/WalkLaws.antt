@@ -1,4 +1,5 @@
 -- What is left of a walk, one instruction further.
+use Rattle.std.specs.Prelude.{if◌then◌else◌}
 use mathlib.Core.Path.{◌≡◌, refl, sym, ap, ◌∙◌}
 use mathlib.Core.List.{List, [], ◌∷◌, ◌++◌}
 use mathlib.Core.Option.{Option, none, some}
@@ -10,7 +11,7 @@ use lib.ListN.{length, drop, get_elem?, drop_of_length-le}
 use lib.Dec.{eqb}
 use borrow.Author.Tests.{eq-eqb, ne_eqb, eqb-true, eqb-false}
 use Rattle.rules.specs.declared.records.Instruction.{Instruction}
-use Rattle.rules.specs.Base.{Refusal, Tried, found, refused, ◌>>=◌, Check, passed, only, each, if◌then◌else◌}
+use Rattle.rules.specs.Base.{Refusal, Tried, found, refused, ◌>>=◌, Check, passed, only, each}
 use Rattle.rules.specs.Stacks.{slot}
 use Rattle.rules.specs.Walk.{targets, hits, origin, Arrow, arriving, first, root_at, state_at, along, judge, judged}
 use Rattle.rules.proofs.ListLaws.{none_some, some_inj}

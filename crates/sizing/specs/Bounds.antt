@@ -1,8 +1,8 @@
 -- Size bounds as the payload has them.
-use Rattle.std.specs.Prelude.{◌≡◌, List, [], ◌∷◌, false, ℕ, ◌+◌, ◌≤◌, ◌<◌, length}
+use Rattle.std.specs.Prelude.{if◌then◌else◌, ◌≡◌, List, [], ◌∷◌, false, ℕ, ◌+◌, ◌≤◌, ◌<◌, length}
 use Rattle.rules.specs.declared.records.Alternative.{Alternative}
 use Rattle.rules.specs.declared.records.AlternativeRecord.{AlternativeRecord}
-use Rattle.rules.specs.Base.{if◌then◌else◌, numbered}
+use Rattle.rules.specs.Base.{numbered}
 use Rattle.rules.specs.Records.{alternative_at, alternative_of, alternative_offset}
 use Rattle.sizing.specs.declared.bounds.Bound.{Bound}
 use Rattle.sizing.specs.Forms.{RowRight}

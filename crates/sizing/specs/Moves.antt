@@ -1,10 +1,10 @@
 -- What the steps of the walk ask and say.
-use Rattle.std.specs.Prelude.{◌≡◌, List, [], ◌∷◌, ◌++◌, true, false, ℕ, ◌+◌, ◌≤◌, ◌<◌, length}
+use Rattle.std.specs.Prelude.{if◌then◌else◌, ◌≡◌, List, [], ◌∷◌, ◌++◌, true, false, ℕ, ◌+◌, ◌≤◌, ◌<◌, length}
 use Rattle.std.proofs.Math.Option.{Option, none, some}
 use Rattle.rules.specs.declared.answers.Checked.{Checked}
 use Rattle.rules.specs.declared.answers.Checked.TheVariants as checked
 use Rattle.rules.specs.declared.records.Instruction.{Instruction}
-use Rattle.rules.specs.Base.{refused, Check, if◌then◌else◌, byte_at}
+use Rattle.rules.specs.Base.{refused, Check, byte_at}
 use Rattle.rules.specs.Container.{payload}
 use Rattle.rules.specs.Program.{Function}
 use Rattle.rules.specs.Records.{head_offset, program_in, function_in}

@@ -1,7 +1,6 @@
 // The walk over a function's code in file order, and over all functions.
-ghost use Rattle.std.specs.Prelude.{◌≡◌, List, ℕ, ◌≤◌};
+ghost use Rattle.std.specs.Prelude.{if◌then◌else◌, ◌≡◌, List, ℕ, ◌≤◌};
 ghost use Rattle.rules.specs.Answers.{told_check};
-ghost use Rattle.rules.specs.Base.{if◌then◌else◌};
 ghost use Rattle.rules.specs.Records.{program_in, function_in};
 ghost use Rattle.rules.specs.Shapes.{sizes_of, sizes_right};
 ghost use Rattle.rules.specs.declared.records.Instruction.TheVariants as ins;

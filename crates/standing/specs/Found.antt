@@ -1,6 +1,6 @@
 -- What a reader of lent blocks finds at an offset of their payload, whether the blocks are right or not.
-use Rattle.std.specs.Prelude.{List, [], Bool, ℕ, ◌+◌, ◌*◌, ◌-◌, ◌/◌, ◌≤◌, min, length, leb}
-use Rattle.rules.specs.Base.{if◌then◌else◌, numbered, byte_at, word_at}
+use Rattle.std.specs.Prelude.{if◌then◌else◌, List, [], Bool, ℕ, ◌+◌, ◌*◌, ◌-◌, ◌/◌, ◌≤◌, min, length, leb}
+use Rattle.rules.specs.Base.{numbered, byte_at, word_at}
 use Rattle.rules.specs.Container.{place_of}
 use Rattle.rules.specs.Records.{header_at, constructor_at, head_at, alternative_at, instruction_at}
 use Rattle.standing.specs.declared.HeaderFound.{HeaderFound}

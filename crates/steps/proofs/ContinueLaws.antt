@@ -1,4 +1,5 @@
 -- The run over heap cells, one decision at a time: when a state ends it, and what its next step does.
+use Rattle.std.specs.Prelude.{if◌then◌else◌}
 use Prim.Native.Nat.{ℕ, zero, suc, ◌+◌, ◌≤◌, ◌<◌}
 use mathlib.Core.Path.{◌≡◌, refl, sym, ap, ap₂, ◌∙◌}
 use mathlib.Core.List.{List, [], ◌∷◌, ◌++◌, map}
@@ -6,7 +7,7 @@ use mathlib.Core.Option.{Option, none, some}
 use lib.ListN.{length, length-map}
 use lib.Dec.{eqb}
 use borrow.Author.Tests.{le-leb, lt-leb}
-use Rattle.rules.specs.Base.{Refusal, refusal, found, refused, if◌then◌else◌}
+use Rattle.rules.specs.Base.{Refusal, refusal, found, refused}
 use Rattle.rules.specs.Heap.{Heap, HeapFrame, HeapState, heap_state, allocated, constructor_of, arguments_of, value_of, frame_of, state_of}
 use Rattle.rules.specs.Heap.{heap_frame_at, heap_onward, entered, place_of, answered_with, execute_on, step_on, heap_step, Valid}
 use Rattle.rules.specs.HeapRun.{end_on, result_on, step_on_within, continued_on}
