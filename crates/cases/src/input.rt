@@ -1,5 +1,5 @@
 // The lines of standard input, in a buffer that holds the bytes that are not answered yet.
-ghost use Rattle.std.specs.Prelude.{◌≤◌, ◌<◌, length};
+ghost use Rattle.std.specs.Prelude.{◌≡◌, ◌≤◌, ◌<◌, length};
 ghost use Rattle.cases.specs.Window.{Within};
 
 use crate::commands;
@@ -108,6 +108,21 @@ fn more(rt: &(impl Input + Print + Eprint), buffer: &mut [u8], window: Window) -
     }
 }
 
+// A window at the buffer's front.
+fn at_front(seen: usize, to: usize, cut: bool) -> Window
+    ensures from { result.from ≡ 0 }
+    ensures seen { result.seen ≡ seen }
+    ensures to { result.to ≡ to }
+{
+    Window {
+        from: 0,
+        seen: seen,
+        to: to,
+        cut: cut,
+        ended: false,
+    }
+}
+
 // One turn: answer a line that is there whole, or make room, or read. It is the last where an answer cannot be written.
 pub fn turn(rt: &(impl Input + Print + Eprint), buffer: &mut [u8], window: Window) -> Window
     requires { Within window (length buffer.old) }
@@ -128,32 +143,10 @@ pub fn turn(rt: &(impl Input + Print + Eprint), buffer: &mut [u8], window: Windo
     }
     if 0 < from {
         shift(buffer, from, to);
-        return Window {
-            from: 0,
-            seen: to - from,
-            to: to - from,
-            cut: window.cut,
-            ended: false,
-        };
+        return at_front(to - from, to - from, window.cut);
     }
     if to == buffer.len() {
-        return Window {
-            from: 0,
-            seen: 0,
-            to: 0,
-            cut: true,
-            ended: false,
-        };
+        return at_front(0, 0, true);
     }
-    more(
-        rt,
-        buffer,
-        Window {
-            from: 0,
-            seen: to,
-            to: to,
-            cut: window.cut,
-            ended: false,
-        },
-    )
+    more(rt, buffer, at_front(to, to, window.cut))
 }
