@@ -86,6 +86,7 @@ def unused_definitions(texts):
     for path, text in texts.items():
         names, body = imports(text)
         imported.update(name for name, _ in names)
+        imported.update(re.findall(r'\bcrate(?:::\w+)*::(\w+)', body))  # an attribute names a lemma by its path
         for paragraph in paragraphs(body):
             used.update(tokens_of(path, paragraph))
             m = SIGNATURE.match(paragraph)
