@@ -1,7 +1,7 @@
 """Prints what docs/ARCHITECTURE.md does not have as crates.txt and the crates' folders have it: crates, what they use, files."""
 import glob, re, sys
 
-OUTSIDE = {'io', 'os', 'libc', 'arrayvec'}  # libraries of the kit
+OUTSIDE = {'io', 'arrayvec'}  # libraries of the kit
 
 
 def wanted():
