@@ -34,12 +34,11 @@ CUT_CONSTRUCTOR = (500, 8)
 
 
 def total(names, own, needed):
-    """One more than the sum of two numbers, by a function that calls itself. The alternative that covers it stands at place `needed` of its
-    bound; its coefficients and its constant are the least that do, so that a smaller one is refused."""
+    """The sum of two numbers, by a function that calls itself. The alternative that covers it stands at place `needed` of its bound."""
     code = [load(1), branch(names.next, 9), load(3), load(2), call(own), build(names.next), load(4), RETURN,
-            branch(names.four, 11), STOP, branch(names.zero, 15), load(2), build(names.next), RETURN, RETURN]
+            branch(names.four, 11), STOP, branch(names.zero, 14), load(2), RETURN, RETURN]
     bound = [((0, 0), 0), ((0, 1), 0), ((1, 0), 0)]
-    bound.insert(needed, ((1, 1), 1))
+    bound.insert(needed, ((1, 1), 0))
     return function(NUMBER, (NUMBER, NUMBER), bound, code)
 
 
@@ -65,7 +64,7 @@ def records():
     yield 0, 10, 3
     for k in range(4):
         yield 10 + 6 * k, 6, k
-    for i in range(15):
+    for i in range(14):
         yield 34 + 4 * i, 4, 3
 
 

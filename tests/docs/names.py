@@ -3,16 +3,16 @@ import os, re, sys
 
 # Words of commands, formats and the language, which no file has to declare.
 PLAIN = {'bash', 'cargo', 'python3', 'rt', 'ci', 'check', 'try', 'sh', 'axioms', 'pub', 'fn', 'requires', 'ensures', 'struct', 'mod',
-         'now', 'entry', 'exit', 'rounds', 'seconds', 'only', 'main', 'unfolding', 'computed', 'std', 'doc', 'dev', 'goals', 'allow-holes',
-         'incremental', 'cache', 'trusted', 'edit', 'Lts'}
+         'rounds', 'seconds', 'only', 'main', 'unfolding', 'computed', 'std', 'doc', 'tidy', 'allow-holes', 'grind',
+         'incremental', 'trusted', 'edit'}
 SOURCES = ('crates/', 'model/', 'bench/', 'tests/', 'tools/', 'examples/')  # their documents declare nothing
-NAME = re.compile(r"[A-Za-z][\w′]*(?:[-_][\w′]+)*")
+NAME = re.compile(r'[A-Za-z]\w*(?:[-_]\w+)*')  # a name with a prime is looked up without it
 
 
 def repository():
     """The paths of its files, without what is built."""
     for folder, folders, files in os.walk('.'):
-        folders[:] = [name for name in folders if name not in ('.git', 'target', '__pycache__')]
+        folders[:] = [name for name in folders if name not in ('.git', 'target', 'out', '__pycache__')]
         yield from (os.path.relpath(os.path.join(folder, name)) for name in files)
 
 

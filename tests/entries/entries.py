@@ -3,29 +3,34 @@ import collections, glob, os, re, sys
 
 Function = collections.namedtuple('Function', 'crate file name public exported asks comment')
 FN = re.compile(r'^(pub )?(extern "C" )?fn (\w+)(?:<[^>]*>)?\(', re.M)
+ATTRIBUTES = re.compile(r'(?:^#\[[^\n]*\]\n|^#\[[^\n]*\n(?:[ \t][^\n]*\n)+\S*\]\n)+\Z', re.M)
 
 
 def read(path):
     return open(path, encoding='utf-8').read()
 
 
+def comment_above(text):
+    """The comment that ends a text, but for the attributes behind it."""
+    lines, comment = ATTRIBUTES.sub('', text).rstrip('\n').split('\n'), []
+    while lines and lines[-1].startswith('//'):
+        comment.insert(0, lines.pop())
+    return comment
+
+
 def functions(path, text):
-    """The functions of a file, with their clauses counted and the comment above them."""
+    """The functions of a file, with their clauses counted, each of which may have a name, and the comment above them."""
     starts = [m.start() for m in FN.finditer(text)] + [len(text)]
     for m, end in zip(FN.finditer(text), starts[1:]):
-        above = text[:m.start()].rstrip('\n').split('\n')
-        comment = []
-        while above and above[-1].startswith('//'):
-            comment.insert(0, above.pop())
         yield Function(path.split('/')[1], os.path.basename(path)[:-3], m[3], bool(m[1]), bool(m[2]),
-                       len(re.findall(r'^\s*requires \{', text[m.start():end], re.M)), comment)
+                       len(re.findall(r'^\s*requires (?:\w+ )?\{', text[m.start():end], re.M)), comment_above(text[:m.start()]))
 
 
 def reachable(f, texts):
     """Whether other crates can name it: it stands in lib.rt, in a public module, or lib.rt hands it on."""
     lib = texts.get('crates/%s/src/lib.rt' % f.crate, '')
     return f.public and (f.file == 'lib' or re.search(r'^pub mod %s\b' % f.file, lib, re.M)
-                         or re.search(r'^pub use %s::%s;' % (f.file, f.name), lib, re.M)) is not None
+                         or re.search(r'^pub use %s::(\{[^}]*\b)?%s\b[^;]*;' % (f.file, f.name), lib, re.M)) is not None
 
 
 def tables(promises):

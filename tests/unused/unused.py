@@ -1,13 +1,18 @@
 """Prints what nothing in the crates uses: imports, definitions, public marks of laws, parameters; and lines that are too long."""
-import collections, glob, re, sys
+import collections, glob, os, re, sys
 
 LONGEST = 140
+# The files of a function's proof, whose definitions the check asks for by their names.
+OF_FUNCTIONS = ('Proof.antt', 'Invariants.antt', 'Answers.antt')
 # What is proved for its own sake: a reader looks for it, and no other proof cites it.
-THEOREMS = {'cases-hold', 'tally-promise', 'check-exact', 'round-trip', 'exact', 'run-promise', 'number-fact', 'result-fact',
-            'cover-fact', 'branch-fact', 'argument-fact', 'read-back-fact', 'room-fact', 'types-fact', 'size-fact', 'choice-fact',
-            'progress-fact', 'argument-exact', 'packing-exact', 'unpacking-exact', 'says-operation', 'refusal-exact', 'check-exactly', 'open-exact',
-            'check-words-small', 'pack-words-small', 'unpack-words-small', 'run-words-small', 'lines-words-small', 'lines-argument',
-            'empty-text', 'lines-exact', 'constants-fact', 'every-byte', 'every-build', 'reads-unpacked', 'found-unpacked'}
+THEOREMS = {'cases_hold', 'tally_promise', 'check_exact', 'round_trip', 'exact', 'run_promise', 'number_fact', 'result_fact',
+            'cover_fact', 'branch_fact', 'argument_fact', 'read_back_fact', 'room_fact', 'types_fact', 'size_fact', 'choice_fact',
+            'progress_fact', 'argument_exact', 'packing_exact', 'unpacking_exact', 'says_operation', 'refusal_exact', 'check_exactly', 'open_exact',
+            'check_words_small', 'pack_words_small', 'unpack_words_small', 'run_words_small', 'lines_words_small', 'lines_argument',
+            'empty_text', 'lines_exact', 'constants_fact', 'every_byte', 'every_build', 'reads_unpacked', 'found_unpacked'}
+
+# What is called of a trait that a file imports and need not name.
+METHODS = {'Read': ('read', 'read_exact', 'read_to_end'), 'Write': ('write', 'write_all', 'flush')}
 
 TOKEN = re.compile(r'[^\s(){}.;,@"«»]+')
 SIGNATURE = re.compile(r'((?:(?:unfoldable|abbrev|pub) )*)(?:data |record )?([^\s(){}.;,]+)(?: [({].*)? :(?: |$)', re.M)
@@ -18,22 +23,36 @@ def read(path):
     return re.sub(r'(^|\s)(--|//)(\s.*|-.*|)$', '', open(path, encoding='utf-8').read(), flags=re.M)
 
 
+def named(item):
+    """An item of an import as the name that is imported and the name it has here."""
+    names = item.split(' as ')
+    return names[0].split('::')[-1], names[-1].split('::')[-1]
+
+
 def imports(text):
     """Each imported name with the name it has here, and the text without the imports."""
     found = []
     for items in re.findall(r'^\s*(?:ghost )?use \S+?\.\{([^}]*)\};?$', text, re.M):
-        for item in filter(None, map(str.strip, items.split(','))):
-            names = item.split(' as ')
-            found.append((names[0], names[-1]))
-    found += [(name, name) for name in re.findall(r'^use [\w:]+::(\w+);$', text, re.M)]
-    return found, re.sub(r'^\s*(?:pub )?(?:ghost )?(?:use|mod) .*$', '', text, flags=re.M)
+        found += [named(item) for item in filter(None, map(str.strip, items.split(',')))]
+    for path in re.findall(r'^\s*use ([\w:]+(?:::\{[^;]*\}|::\w+(?: as \w+)?));$', text, re.M):
+        before = ''
+        for item in filter(None, map(str.strip, re.split('[{},]', path))):
+            if item.endswith('::'):
+                before = item[:-2]
+            else:
+                found.append(named(before if item == 'self' else item))
+    return found, re.sub(r'^\s*(?:pub )?(?:ghost )?(?:use [^\n{;]*(?:\{[^;]*?\})?;?|mod [^\n{]*)$', '', text, flags=re.M)
+
+
+def is_operator(name):
+    return '◌' in name
 
 
 def occurs(name, tokens):
-    """Whether a name, or each part of an operator, is among the tokens. A `do` block uses `_>>=_` unseen."""
-    if name == '_>>=_' and '←' in tokens:
+    """Whether a name, each part of an operator or a method of a trait is among the tokens. A `do` block uses `◌>>=◌` unseen."""
+    if name == '◌>>=◌' and '←' in tokens or any(method in tokens for method in METHODS.get(name, ())):
         return True
-    return name in tokens or '_' in name and all(part in tokens for part in name.split('_') if part)
+    return name in tokens or is_operator(name) and all(part in tokens for part in name.split('◌') if part)
 
 
 def tokens_of(path, text):
@@ -67,29 +86,30 @@ def unused_definitions(texts):
     for path, text in texts.items():
         names, body = imports(text)
         imported.update(name for name, _ in names)
+        imported.update(re.findall(r'\bcrate(?:::\w+)*::(\w+)', body))  # an attribute names a lemma by its path
         for paragraph in paragraphs(body):
             used.update(tokens_of(path, paragraph))
             m = SIGNATURE.match(paragraph)
             for name in re.findall(r'\bpub (?:data |record )?(\S+)', paragraph):
                 shown[path].update(set(TOKEN.findall(told(paragraph, name))) - {name})
-            if m and path.endswith('.antt') and not path.endswith('/Proof.antt'):
+            if m and path.endswith('.antt') and os.path.basename(path) not in OF_FUNCTIONS:
                 declared.append((path, m[2], 'pub ' in m[1]))
     for path, name, public in declared:
         if name in THEOREMS or name in imported:
             continue
-        if '_' not in name and used[name] < 2:
+        if not is_operator(name) and used[name] < 2:
             yield '%s: %s is not used' % (path, name)
         if public and '/proofs/' in path and name not in shown[path]:
             yield '%s: %s is public and not imported' % (path, name)
 
 
 def functions(text):
-    """Name, parameters and body of each function of a Rattle file. Brackets in a byte string close nothing."""
-    text = re.sub(r'b"[^"]*"', 'b""', text)
+    """Name, parameters and body of each function of a Rattle file. Brackets in a string or a character close nothing."""
+    text = re.sub(r'"(?:[^"\\]|\\.)*"|\'(?:[^\'\\]|\\.)\'', lambda m: re.sub(r'[][(){}]', ' ', m[0]), text)
     for m in re.finditer(r'\bfn (\w+)(?:<[^>]*>)?\(', text):
         end = closing(text, m.end() - 1)
         start = text.index('{', end)
-        while re.search(r'(requires|ensures)\s*$', text[end:start]):
+        while re.search(r'(requires|ensures)(?: \w+)?\s*$', text[end:start]):
             end = closing(text, start)
             start = text.index('{', end)
         yield m[1], text[m.end():closing(text, m.end() - 1)], text[start:closing(text, start)]
@@ -122,7 +142,8 @@ def long_lines(paths):
 
 
 def main():
-    paths = sorted(glob.glob('crates/**/*.antt', recursive=True) + glob.glob('crates/**/*.rt', recursive=True))
+    paths = [path for folder in ('src', 'specs', 'proofs') for path in glob.glob('crates/*/%s/**' % folder, recursive=True)]
+    paths = sorted(path for path in paths if path.endswith(('.antt', '.rt')))
     texts = {path: read(path) for path in paths}
     found = [*unused_imports(texts), *unused_definitions(texts), *unread_parameters(texts), *long_lines(paths)]
     print('\n'.join(found) if found else 'ok: nothing is unused in %d files' % len(paths))

@@ -2,7 +2,7 @@
 import collections, os, re, shutil, subprocess
 from statements import IMPORTS, statement
 
-USED = re.compile(r'^use Rattle·rules(?:·specs)?\.specs\.(\w+)', re.M)
+USED = re.compile(r'^use Rattle\.rules\.specs\.(\w+)', re.M)
 
 
 def definitions(folder):
@@ -63,7 +63,7 @@ class Checker:
         return {**self.refusals(batch[:half], memory), **self.refusals(batch[half:], memory)}
 
     def run(self, crate):
-        done = subprocess.run(['rt', 'check', crate], cwd=self.top, capture_output=True, text=True, env=dict(os.environ, RT_CUT='0'))
+        done = subprocess.run(['rt', 'check'], cwd=os.path.join(self.top, 'crates', crate), capture_output=True, text=True)
         return done.returncode, done.stdout + done.stderr
 
 

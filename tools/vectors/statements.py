@@ -8,19 +8,16 @@ from kinds import data
 # A slice of more entries than this is left out of the statement.
 LONGEST_SLICE = 400000
 
-IMPORTS = """use mathlib.Core.Path.{_≡_, refl}
-use mathlib.Core.List.{List, [], _∷_, _++_}
-use mathlib.Core.Bool.{Bool, true, false}
-use Prim.Native.Nat.{ℕ, zero, suc, _+_, _*_, _/_, _%_}
-use lib.ListN.{replicate}
-use Rattle·rules.specs.declared.answers.Counts.{Counts}
-use Rattle·rules.specs.Base.{refusal, Tried, found, refused}
-use Rattle·rules.specs.Container.{pack, unpack}
-use Rattle·rules.specs.Check.{verdictOf}
-use Rattle·rules.specs.Lines.{linesOf}
-use Rattle·rules.specs.Run.{Lent, usable, finished, aborted, refusedWith, Outcome, answer, run}
-use Rattle·rules.specs.Memory.{copiedInto, resultInto, packLeaves, unpackLeaves, linesLeave, begun, tableAfter, outputAfter, cellsAfter, stackAfter}
-use Rattle·rules.specs.Computed.{computed}
+IMPORTS = """use Rattle.std.specs.Prelude.{◌≡◌, List, [], ◌∷◌, ◌++◌, Bool, true, false, ℕ, zero, suc, ◌+◌, ◌*◌, ◌/◌, ◌%◌, replicate}
+use mathlib.Core.Path.{refl}
+use Rattle.rules.specs.declared.answers.Counts.{Counts}
+use Rattle.rules.specs.Base.{refusal, Tried, found, refused}
+use Rattle.rules.specs.Container.{pack, unpack}
+use Rattle.rules.specs.Check.{verdict_of}
+use Rattle.rules.specs.Lines.{lines_of}
+use Rattle.rules.specs.Run.{Lent, usable, finished, aborted, refused_with, Outcome, answer, run}
+use Rattle.rules.specs.Memory.{copied_into, result_into, pack_leaves, unpack_leaves, lines_leave, begun, table_after, output_after, cells_after, stack_after}
+use Rattle.rules.specs.Computed.{computed}
 
 -- n bytes of a number, low byte first
 abbrev bytes : ℕ → ℕ → List ℕ
@@ -78,7 +75,7 @@ def wiped(begun, usable, length):
 
 
 # The commands that fill an output, each with its definition and with what that leaves in the output.
-FILLING = {'pack': ('pack', 'packLeaves'), 'unpack': ('unpack', 'unpackLeaves'), 'lines': ('linesOf', 'linesLeave')}
+FILLING = {'pack': ('pack', 'pack_leaves'), 'unpack': ('unpack', 'unpack_leaves'), 'lines': ('lines_of', 'lines_leave')}
 
 
 def given(w):
@@ -109,8 +106,8 @@ def tables(w, a, words):
     call = '%s %s %s %s %s' % words
     cut = lambda n: min(65535, n)
     usable_cells = min(65471, cells // 5)
-    frames_after = 'tableAfter (%s) 0 (3 * usable %s .frames)' % (has_begun(a, words)[0], words[4])
-    for term, usable, length in (('cellsAfter ' + call, 5 * usable_cells, cells), ('stackAfter ' + call, cut(stack), stack),
+    frames_after = 'table_after (%s) 0 (3 * (usable %s).frames)' % (has_begun(a, words)[0], words[4])
+    for term, usable, length in (('cells_after ' + call, 5 * usable_cells, cells), ('stack_after ' + call, cut(stack), stack),
                                  (frames_after, 3 * cut(frames), 3 * frames)):
         if 0 < length <= LONGEST_SLICE:
             yield '%s (filled 0 %d)' % (term, length), 'List ℕ', wiped(a[-1] == '1', usable, length)
@@ -121,13 +118,13 @@ def output(w, a, words):
     room = int(w[8])
     if 0 < room <= LONGEST_SLICE:
         left = front(data(a[1]) if a[0] == 'figure' else b'', room)
-        yield 'outputAfter %s %s %s %s %s (filled 0 %d)' % (*words, room), 'List ℕ', left
+        yield 'output_after %s %s %s %s %s (filled 0 %d)' % (*words, room), 'List ℕ', left
 
 
 def running(w, a, memory, turn):
     """Of a run: the answer, whether it had begun, and what each lent slice holds. Of a refused one the output and one table in turn."""
     words = (listed(data(w[1])), w[2], listed(data(w[3])), w[4], '(lent %s %s %s %s)' % tuple(w[5:9]))
-    ending = {'figure': lambda: 'finished ' + listed(data(a[1])), 'gaveup': lambda: 'aborted', 'refused': lambda: 'refusedWith ' + refusal(a)}[a[0]]()
+    ending = {'figure': lambda: 'finished ' + listed(data(a[1])), 'gaveup': lambda: 'aborted', 'refused': lambda: 'refused_with ' + refusal(a)}[a[0]]()
     given = [('run %s %s %s %s %s' % words, 'Outcome', 'answer (%s) %s' % (ending, a[-2]))]
     after = list(tables(w, a, words)) if memory else []
     if a[0] == 'refused' and after:
@@ -143,11 +140,11 @@ def parts(command, reply, memory=True, turn=0):
     if w[0] == 'run':
         return running(w, a, memory, turn)
     said = 'refused ' + refusal(a) if a[0] == 'refused' else 'found (counts %s %s %s)' % tuple(a[1:4])
-    return [('verdictOf ' + listed(data(w[1])), 'Tried Counts', said)]
+    return [('verdict_of ' + listed(data(w[1])), 'Tried Counts', said)]
 
 
 def statement(name, command, reply, memory=True):
     """The text of a vector's statement, to be closed by computation."""
     terms, types, said = zip(*parts(command, reply, memory, int(name.strip('abcdefghijklmnopqrstuvwxyz'))))
-    text = '\n%s : _≡_ {A = %s} (%s) (%s)\n' % (name, ' × '.join('(%s)' % t for t in types), ', '.join(terms), ', '.join(said))
-    return text + 'unfolding computed copiedInto resultInto tableAfter\n%s = refl\n' % name
+    text = '\n%s : ◌≡◌ {A = %s} (%s) (%s)\n' % (name, ' × '.join('(%s)' % t for t in types), ', '.join(terms), ', '.join(said))
+    return text + 'unfolding computed copied_into result_into table_after\n%s = refl\n' % name
