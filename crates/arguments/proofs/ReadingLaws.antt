@@ -120,7 +120,8 @@ module _ {file : List ℕ} (parsed : Parsed file) where
     pub byte_unknown : known ≤ c → constructor (program_in file) c ≡ none
     unfolding program_of
     byte_unknown h =
-        numbered_past (λ k. constructor_of (constructor_at (payload file) (constructor_offset k))) (byte_at (payload file) 2) 0 c (omega arith)
+        numbered_past (λ k. constructor_of (constructor_at (payload file) (constructor_offset k))) (byte_at (payload file) 2) 0 c
+        (omega arith)
 
     pub declaration_there : c < known → Verified file × (constructor_offset c + 6 ≤ length (payload file))
     declaration_there h = (parsed.verified, omega (arith, (there.constructor c (omega arith)).0))

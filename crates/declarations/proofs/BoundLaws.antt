@@ -13,7 +13,8 @@ use Rattle.rules.specs.declared.records.HeadRecord.{HeadRecord}
 use Rattle.rules.specs.declared.records.AlternativeRecord.{AlternativeRecord}
 use Rattle.rules.specs.Base.{refusal, Check, require, numbered, for_each, each, any, byte_at}
 use Rattle.rules.specs.Declarations.{counted, argument_rule, bound_rule}
-use Rattle.rules.specs.Records.{four_at, head_at, declaration_at, alternative_at, alternative_offset, arguments_of, alternative_of, function_of}
+use Rattle.rules.specs.Records.{four_at, head_at, declaration_at, alternative_at, alternative_offset, arguments_of, alternative_of}
+use Rattle.rules.specs.Records.{function_of}
 use Rattle.rules.specs.There.{FunctionThere}
 use Rattle.rules.proofs.RecordLaws.{arguments_length}
 use Rattle.declarations.specs.Bounded.{positive_in}
@@ -110,4 +111,5 @@ module _ {bytes : List ℕ} {at : ℕ} (t : FunctionThere bytes at) where
         ∙ any_numbered (λ a. ltb 0 (get_or a.coefficients k 0)) (λ a. ltb 0 (get_or a.coefficients (k + 1 - 1) 0))
         (λ i. alternative_at bytes (alternative_offset at i))
         (λ i. alternative_of (byte_at bytes (at + 1)) (alternative_at bytes (alternative_offset at i)))
-        (λ i. rw (back, get_or-take (byte_at bytes (at + 1)) (four_at bytes (alternative_offset at i)) k 0 within)) (byte_at bytes (at + 6)) 0)
+        (λ i. rw (back, get_or-take (byte_at bytes (at + 1)) (four_at bytes (alternative_offset at i)) k 0 within))
+        (byte_at bytes (at + 6)) 0)

@@ -35,7 +35,8 @@ use Rattle.delivery.specs.Delivers.{Ended, Delivers}
 
 module _ (steps : ℕ) (out : List ℕ) where
   pub delivers_result : (bytes : List ℕ) {out' : List ℕ} {n : ℕ} → n ≡ length bytes → length bytes ≤ length out
-      → out' ≡ front_written bytes out → Delivers (answer (finished bytes) steps) out out' (record { ending = ends.Result n; steps = steps })
+      → out' ≡ front_written bytes out → Delivers (answer (finished bytes) steps) out out'
+      (record { ending = ends.Result n; steps = steps })
   unfolding result_into
   delivers_result bytes e h o =
       record { says = rw (deliver_result (length out) steps bytes h, e); left = rw (deliver_result (length out) steps bytes h) o }
@@ -54,7 +55,11 @@ module _ (steps : ℕ) (out : List ℕ) where
       → Delivers (answer (refused_with (refusal_of r)) steps) out out (record { ending = ends.Refused r; steps = steps })
   unfolding result_into
   delivers_refused r =
-      record { says = rw (deliver_refused (length out) steps (refusal_of r)); left = rw (deliver_refused (length out) steps (refusal_of r)) }
+      record {
+        says = rw (deliver_refused (length out) steps (refusal_of r));
+        left =
+            rw (deliver_refused (length out) steps (refusal_of r));
+      }
 
 -- a number at a place
 pub same_number : {a b : ℕ} (p : Place) → b ≡ a → at_place a p ≡ at_place b p

@@ -44,7 +44,8 @@ module _ (bytes : List ℕ) where
   pub constructor_is : (c : ℕ) → c < byte_at bytes 2
       → constructor (program_of bytes) c ≡ some (constructor_of (constructor_at bytes (constructor_offset c)))
   unfolding program_of
-  constructor_is c h = rw zero-add at (numbered_at (λ k. constructor_of (constructor_at bytes (constructor_offset k))) (byte_at bytes 2) 0 c h)
+  constructor_is c h = rw zero-add at (numbered_at (λ k. constructor_of (constructor_at bytes (constructor_offset k))) (byte_at bytes 2) 0
+      c h)
 
   pub function_is : (f : ℕ) → f < byte_at bytes 3 → function (program_of bytes) f ≡ some (function_of bytes (head_offset bytes f))
   unfolding program_of
@@ -67,8 +68,12 @@ module _ (bytes : List ℕ) where
         × (byte_at bytes (constructor_offset c + 1) ≤ 4)
     unfolding constructor_of
     held_arity c h =
-        let most = (there.constructor c h).1 in
-        (arity_is (program_of bytes) c (constructor_is c h) ∙ arguments_length bytes (constructor_offset c) most, omega (arith, few.0), most)
+        let most = (there.constructor c h).1 in (
+          arity_is (program_of bytes) c (constructor_is c h)
+              ∙ arguments_length bytes (constructor_offset c) most,
+          omega (arith, few.0),
+          most,
+        )
 
     held_inputs : (f : ℕ) → f < byte_at bytes 3 → (inputs (program_of bytes) f ≡ byte_at bytes (head_offset bytes f + 1)) × (f < 32)
         × (byte_at bytes (head_offset bytes f + 1) ≤ 4)

@@ -108,7 +108,8 @@ module _ {bytes : List ℕ} {k w : ℕ} {ins : Instruction} (there : WordThere b
   word_load e = is ∙ sym (says_load (byte_at bytes k) (byte_at bytes (k + 1)) (word_at bytes (k + 2)) right (sym low ∙ e)) ∙ ap Load middle
 
   pub word_build : w % 256 ≡ 2 → ins ≡ Build (w / 256 % 256)
-  word_build e = is ∙ sym (says_build (byte_at bytes k) (byte_at bytes (k + 1)) (word_at bytes (k + 2)) right (sym low ∙ e)) ∙ ap Build middle
+  word_build e = is ∙ sym (says_build (byte_at bytes k) (byte_at bytes (k + 1)) (word_at bytes (k + 2)) right (sym low ∙ e))
+      ∙ ap Build middle
 
   pub word_call : w % 256 ≡ 3 → ins ≡ Call (w / 256 % 256)
   word_call e = is ∙ sym (says_call (byte_at bytes k) (byte_at bytes (k + 1)) (word_at bytes (k + 2)) right (sym low ∙ e)) ∙ ap Call middle

@@ -254,7 +254,8 @@ module _ (bytes : List ℕ) (at g : ℕ) (c : Code) where
           → Waits (get_or (set (replicate 257 0) 1 1) j 0) ((if b then 1 else 0) + 0) (if b then some false else none)
       go j h true e = let q : 1 ≡ j = eqb-true 1 j e in rw (← q) clear
       go j h false e =
-          rw (get_or-set_other {A = ℕ} (replicate 257 0) 1 j 1 0 (λ q. eqb-false 1 j e (sym q)), get_or-replicate {A = ℕ} 257 j 0 0 h) nowhere
+          rw (get_or-set_other {A = ℕ} (replicate 257 0) 1 j 1 0 (λ q. eqb-false 1 j e (sym q)), get_or-replicate {A = ℕ} 257 j 0 0 h)
+          nowhere
 
   flow_whole : CodeThere bytes at c → for_each rule_here 0 c.last ≡ whole
   unfolding flow_of

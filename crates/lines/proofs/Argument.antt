@@ -11,7 +11,8 @@ use lib.Dec.{leb, eqb}
 use borrow.Author.Tests.{le-leb, eq-eqb, ne_eqb}
 use Rattle.rules.specs.Answers.{length_of, length_words}
 use Rattle.rules.specs.Base.{Refusal, refusal, Tried, found, refused, passed, ◌>>=◌, require, byte_at}
-use Rattle.rules.specs.Lines.{entries, table_right, same_letters, lookup, leading, text_lines, line_right, code, codes, list_of, in_room, lines_of}
+use Rattle.rules.specs.Lines.{entries, table_right, same_letters, lookup, leading, text_lines, line_right, code, codes, list_of, in_room}
+use Rattle.rules.specs.Lines.{lines_of}
 use Rattle.rules.specs.Lists.{All, l[], ◌l∷◌, All2, a[], ◌a∷◌}
 use Rattle.rules.specs.Prefix.{read_byte, read_bytes, arguments_right, arity_of, values}
 use Rattle.rules.specs.Program.{Program}

@@ -123,7 +123,8 @@ module _ (text table : List ℕ) (cons nil room : ℕ) where
   lines_table h = rw h
 
   module _ (right : table_right table ≡ true) (apart : cons ≡ nil → ⊥) where
-    pub lines_refused : {r : Refusal} → codes (entries table) 1 (text_lines text) ≡ refused r → lines_of text table cons nil room ≡ refused r
+    pub lines_refused : {r : Refusal} → codes (entries table) 1 (text_lines text) ≡ refused r
+        → lines_of text table cons nil room ≡ refused r
     unfolding lines_of
     lines_refused h = rw (right, ne_eqb cons nil apart, h)
 

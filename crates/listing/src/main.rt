@@ -27,7 +27,8 @@ use rules::answers::{Counts, Verdict};
 // The verdict on a program: its counts are known where it was accepted, and otherwise 0.
 fn verdict_on(file: &[u8], types: u8, constructors: u8, functions: u8) -> Verdict
     ensures result_value { types ≡ 0 → told result ≡ verdict_of file.now }
-    ensures result_value_2 { 0 < types → told result ≡ found (record { types = types; constructors = constructors; functions = functions }) }
+    ensures result_value_2 { 0 < types → told result ≡ found
+        (record { types = types; constructors = constructors; functions = functions }) }
 {
     if 0 < types {
         return Verdict::Accepted(Counts {

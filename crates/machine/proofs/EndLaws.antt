@@ -143,7 +143,8 @@ module _ (file : List ℕ) (m : Limits) (budget : ℕ) (cells stack : List ℕ) 
   pub spent_ends : end_on (program_in file) heap (fr₁ ∷ others) ≡ none → r.left ≡ 0
       → answers_on (program_in file) m budget cells stack r i ws ≡ answer (refused_with (refusal 14 r.function i)) (budget - r.left)
   spent_ends ends none_left =
-      ap (λ (k : ℕ). continued_on (program_in file) (tables m) k (budget - r.left) (state_in (program_in file) cells stack r i ws)) none_left
+      ap (λ (k : ℕ). continued_on (program_in file) (tables m) k (budget - r.left) (state_in (program_in file) cells stack r i ws))
+      none_left
       ∙ spent_on (program_in file) (tables m) (budget - r.left) heap fr₁ others ends
 
   -- frames wait

@@ -13,7 +13,8 @@ use Rattle.rules.specs.Container.{verify, payload}
 use Rattle.rules.specs.Check.{checked}
 use Rattle.rules.specs.Established.{Verified}
 use Rattle.rules.specs.Program.{Function, Program, constructor, function}
-use Rattle.rules.specs.Records.{declaration_at, constructor_at, alternative_at, instruction_at, arguments_of, constructor_of, alternative_of}
+use Rattle.rules.specs.Records.{declaration_at, constructor_at, alternative_at, instruction_at, arguments_of, constructor_of}
+use Rattle.rules.specs.Records.{alternative_of}
 use Rattle.rules.specs.Records.{instruction_of, function_of, program_of, decode, records_right, is_some, or_else, operation}
 use Rattle.rules.specs.Records.{constructor_offset, head_offset, alternative_offset, code_offset, instruction_offset}
 use Rattle.rules.specs.There.{FunctionThere}

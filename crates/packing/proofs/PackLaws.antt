@@ -11,7 +11,8 @@ use native.Mathlib.Decide.{dec_le}
 use borrow.Rule.Slice.PartMut.{put_mid}
 use borrow.Author.Tests.{le-leb, lt-leb}
 use Rattle.rules.specs.Base.{Refusal, refusal, found, refused, within}
-use Rattle.rules.specs.Container.{weighed, checksum, bytes2, bytes4, block_body, block, blocks_of, block_count, packed, pack, verified, unpack}
+use Rattle.rules.specs.Container.{weighed, checksum, bytes2, bytes4, block_body, block, blocks_of, block_count, packed, pack, verified}
+use Rattle.rules.specs.Container.{unpack}
 use Rattle.rules.specs.Memory.{front_written, overwritten}
 use Rattle.rules.proofs.ContainerLaws.{body_length, block_length, blocks_length}
 use Rattle.rules.proofs.WriteLaws.{front_grown, front_whole}

@@ -9,7 +9,8 @@ use lib.Seq.{take_all, take_at, drop_at, take-take, take-add, length-take-le}
 use lib.Dec.{leb}
 use borrow.Author.Tests.{eq-eqb, ne_eqb, le-leb, leb-true}
 use Rattle.rules.specs.Base.{found, passed, is_zero, word_at}
-use Rattle.rules.specs.Container.{used_right, verify_block, verify_blocks, length_right, verify, payload_of, payload, verified, block, blocks_of}
+use Rattle.rules.specs.Container.{used_right, verify_block, verify_blocks, length_right, verify, payload_of, payload, verified, block}
+use Rattle.rules.specs.Container.{blocks_of}
 use Rattle.rules.specs.Container.{block_count, packed}
 use Rattle.rules.specs.Lists.{l[], Bytes}
 use Rattle.rules.specs.Memory.{copied_into, pack_leaves}

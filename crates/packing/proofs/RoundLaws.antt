@@ -225,8 +225,10 @@ module _ {last : Bool} {k : ℕ} {b : List ℕ} (p : BlockPasses last k b) (byte
   block_again =
       let rest : List ℕ = drop 508 b in
       let four : length rest ≡ 4 = simp length-drop (omega (arith, l)) in
-      let same : long_at rest 0 ≡ long_at b 508 = rw (get_or-drop 508 b 0 0, get_or-drop 508 b 1 0, get_or-drop 508 b 2 0, get_or-drop 508 b 3 0) in
+      let same : long_at rest 0 ≡ long_at b 508 = rw
+      (get_or-drop 508 b 0 0, get_or-drop 508 b 1 0, get_or-drop 508 b 2 0, get_or-drop 508 b 3 0) in
       let tail : rest ≡ bytes4 (checksum (block_body k (part_of b))) = sym (take_all 4 rest (omega (arith, four)))
       ∙ first_long (all_drop 508 bytes) (omega (arith, four)) ∙ ap bytes4 (same ∙ check_is) in
-      sym (ap (λ (m : List ℕ). m ++ bytes4 (checksum (block_body k (part_of b)))) front_is) ∙ sym (ap (λ (m : List ℕ). take 508 b ++ m) tail)
+      sym (ap (λ (m : List ℕ). m ++ bytes4 (checksum (block_body k (part_of b)))) front_is)
+      ∙ sym (ap (λ (m : List ℕ). take 508 b ++ m) tail)
       ∙ take-append-drop 508 b

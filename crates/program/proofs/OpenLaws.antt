@@ -56,10 +56,12 @@ module _ {file : List ℕ} {n : ℕ} (o : Measured file n) (size : ℕ) (right :
 -- the alternatives of the function with this arity whose head stands at an offset
 abbrev alternatives_check : List ℕ → ℕ → ℕ → ℕ → Check
 alternatives_check p at arity count =
-    for_each (λ k. record_right 6 p (alternative_offset at k) (alternative_right arity (alternative_at p (alternative_offset at k)))) 0 count
+    for_each (λ k. record_right 6 p (alternative_offset at k) (alternative_right arity (alternative_at p (alternative_offset at k)))) 0
+    count
 
 function_by : (p : List ℕ) (at : ℕ) {t u v : Check} → record_right 10 p at (head_right (head_at p at)) ≡ t
-    → for_each (alternative_check p at) 0 (byte_at p (at + 6)) ≡ u → for_each (instruction_check p (code_offset p at)) 0 (word_at p (at + 8)) ≡ v
+    → for_each (alternative_check p at) 0 (byte_at p (at + 6)) ≡ u
+    → for_each (instruction_check p (code_offset p at)) 0 (word_at p (at + 8)) ≡ v
     → function_right p at ≡ (t >>= (λ _. u >>= (λ _. v)))
 unfolding function_right
 function_by p at e₁ e₂ e₃ = rw (e₁, e₂, e₃)
@@ -97,7 +99,8 @@ module _ {file : List ℕ} {n : ℕ} (o : Measured file n) (at : ℕ) where
           → FunctionRecordsRight (payload file) at checked end
       placed_alternatives e a =
           placed_refused (payload file) at (function_by (payload file)
-          at (record_good o 10 (λ x. head_right (head_at (payload file) x)) refl whole (right ∙ ap head_right is) w) (alternatives_as e) refl)
+          at (record_good o 10 (λ x. head_right (head_at (payload file) x)) refl whole (right ∙ ap head_right is) w) (alternatives_as e)
+          refl)
           a
 
       pub placed_code : {code : Checked} {k base end : ℕ}

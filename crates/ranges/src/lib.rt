@@ -3,7 +3,8 @@
 
 ghost use Rattle.std.specs.Prelude.{◌≡◌, leb};
 ghost use Rattle.rules.specs.Base.{within, all};
-ghost use Rattle.rules.specs.Records.{past_zero, header_right, declaration_right, constructor_right, head_right, alternative_right, operation};
+ghost use Rattle.rules.specs.Records.{past_zero, header_right, declaration_right, constructor_right, head_right, alternative_right};
+ghost use Rattle.rules.specs.Records.{operation};
 ghost use Rattle.rules.specs.Records.{is_some};
 
 use rules::records::{

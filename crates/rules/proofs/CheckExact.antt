@@ -140,7 +140,8 @@ module _ (file : List ℕ) where
   refuses r (declarations {s} {p} {q} u h) = past4 s u ∙ rw (((declarations_exact s).1 (refusal 5 p q)).1 h)
   refuses r (bounds {s} {g} {k} u h) = past5 s u ∙ rw (((bounds_exact s).1 (refusal 6 g k)).1 h)
   refuses r (flow {s} {n} {i} {f} u at before h) = past6 s u ∙ rw (((flow_decides s).1 (refusal 7 n i)).1 (n, f, at, (i, refl, h), before))
-  refuses r (types {s} {n} {i} {f} u at before h) = past7 s u ∙ rw (((types_decides u).1 (refusal 8 n i)).1 (n, f, at, (i, refl, h), before))
+  refuses r (types {s} {n} {i} {f} u at before h) = past7 s u
+      ∙ rw (((types_decides u).1 (refusal 8 n i)).1 (n, f, at, (i, refl, h), before))
   refuses r (many {s} {n} {i} {f} u at before h) =
       past8 s u ∙ rw (((sizes_decides u).1 (refusal 9 n i)).1 (n, f, at, inr (i, refl, h), before))
   refuses r (cover {s} {n} {i} {f} u at before h) =

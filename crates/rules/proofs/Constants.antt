@@ -278,7 +278,8 @@ module _ (old new : CellRule) (s : Program) (fewer : (n : ℕ) → new.taken n �
             enough_now (rw e (omega arith))
             (started_refused new s w budget entry bytes e' ∙ sym (started_refused old s m budget entry bytes e))
 
-        three : Both (cells_loaded_by new s bytes) (loaded_by old s m entry bytes ≡ found begin) (loaded_by new s w entry bytes ≡ found begin)
+        three : Both (cells_loaded_by new s bytes) (loaded_by old s m entry bytes ≡ found begin)
+            (loaded_by new s w entry bytes ≡ found begin)
             (λ number. loaded_by old s m entry bytes ≡ refused (refusal number entry 1))
             (λ number. loaded_by new s w entry bytes ≡ refused (refusal number entry 1)) → Goal
         three (fit p p' can) =

@@ -122,12 +122,14 @@ payload_byte (suc n) k s l e i h =
     full_used (suc m) p h' = full_count n m p used
 
     go : (t : Bool) → ltb i (word_at s 2) ≡ t
-        → ((i' : ℕ) → i' < length (payload_of n (drop 512 s)) → get_or (payload_of n (drop 512 s)) i' 0 ≡ get_or (drop 512 s) (place_of i') 0)
+        → ((i' : ℕ) → i' < length (payload_of n (drop 512 s))
+        → get_or (payload_of n (drop 512 s)) i' 0 ≡ get_or (drop 512 s) (place_of i') 0)
         → get_or (take (word_at s 2) (drop 4 s) ++ payload_of n (drop 512 s)) i 0 ≡ get_or s (place_of i) 0
     go true t ih =
         let b : i < word_at s 2 = ltb-true _ _ t in
         let p : 4 + i ≡ place_of i = omega (arith, small) in
-        get_or-append (take (word_at s 2) (drop 4 s)) (payload_of n (drop 512 s)) 0 i (rw long b) ∙ get_or-take (word_at s 2) (drop 4 s) i 0 b
+        get_or-append (take (word_at s 2) (drop 4 s)) (payload_of n (drop 512 s)) 0 i (rw long b)
+        ∙ get_or-take (word_at s 2) (drop 4 s) i 0 b
         ∙ get_or-drop 4 s i 0 ∙ ap (λ (j : ℕ). get_or s j 0) p
     go false t ih =
         let b : word_at s 2 ≤ i = ltb-false _ _ t in

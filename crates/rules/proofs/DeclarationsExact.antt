@@ -53,7 +53,8 @@ module _ (types : ℕ) where
   abbrev SignatureFails : ℕ → Function → Refusal → Type 0
   SignatureFails g f r = (r ≡ refusal 5 1 g) × ¬ SignatureOk types f
 
-  constructor_decides : (c : ℕ) (k : Constructor) → Decides (constructor_rule types (0 + c) k) (ConstructorOk types k) (ConstructorFails c k)
+  constructor_decides : (c : ℕ) (k : Constructor) → Decides (constructor_rule types (0 + c) k) (ConstructorOk types k)
+      (ConstructorFails c k)
   unfolding constructor_rule
   constructor_decides c k =
       rw (zero-add c) (decides_require (all_below types (k.result ∷ k.arguments) && weight_right k) (refusal 5 0 c)

@@ -17,7 +17,8 @@ use Rattle.rules.specs.Tree.{made, label, arguments}
 use Rattle.rules.specs.Stacks.{slot, split, push}
 use Rattle.rules.specs.Machine.{Value, Frame, State, frame_at, onward, top, current, answered, execute, step}
 use Rattle.rules.specs.Heap.{Cell, Heap, HeapFrame, HeapState, heap_state, cell, is_constant, number_of, cell_at, allocated}
-use Rattle.rules.specs.Heap.{constructor_of, arguments_of, Refers, value_in, value_of, frame_of, state_of, heap_frame_at, heap_onward, place_of}
+use Rattle.rules.specs.Heap.{constructor_of, arguments_of, Refers, value_in, value_of, frame_of, state_of, heap_frame_at, heap_onward}
+use Rattle.rules.specs.Heap.{place_of}
 use Rattle.rules.specs.Heap.{answered_with, execute_on, step_on, heap_step, FramesRefer, NamesEarlier, Valid}
 use Rattle.rules.proofs.ListLaws.{at_less, all_slot, all_parts}
 use Rattle.rules.proofs.MapLaws.{option_map, both_map, map-append, map_slot, map_split, map_alike, bind_both, bind_mapped}

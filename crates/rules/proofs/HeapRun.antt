@@ -20,7 +20,8 @@ use Rattle.rules.specs.HeapRun.{result_on, end_on, step_on_within, continued_on,
 use Rattle.rules.specs.Facts.{HeapFact}
 use Rattle.rules.specs.Prefix.{read_bytes, arguments_right, arity, values, written}
 use Rattle.rules.specs.Run.{with_arguments, Tables, Ending, finished, refused_with, Outcome, answer, fits, cells_taken, cells_loaded_by}
-use Rattle.rules.specs.Run.{cells_loaded, refusal_at, finished_with, end_of, Point, step_within_by, step_within, continued, loaded_by, loaded}
+use Rattle.rules.specs.Run.{cells_loaded, refusal_at, finished_with, end_of, Point, step_within_by, step_within, continued, loaded_by}
+use Rattle.rules.specs.Run.{loaded}
 use Rattle.rules.specs.Run.{started_by}
 use Rattle.rules.proofs.ListLaws.{at_less, all_map, all_take, all_drop}
 use Rattle.rules.proofs.TriedLaws.{refused_found, found_inj, bind_found, after_some, after_required}

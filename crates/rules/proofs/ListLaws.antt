@@ -58,7 +58,8 @@ module _ {A B : Type 0} {R : A → B → Type 0} where
   all2_drop (suc k) a[] = a[]
   all2_drop (suc k) (r a∷ p) = all2_drop k p
 
-  all2_at : (n : ℕ) {xs : List A} {ys : List B} {y : B} → All2 R xs ys → get_elem? ys n ≡ some y → (x : A) × (get_elem? xs n ≡ some x) × R x y
+  all2_at : (n : ℕ) {xs : List A} {ys : List B} {y : B} → All2 R xs ys → get_elem? ys n ≡ some y → (x : A) × (get_elem? xs n ≡ some x)
+      × R x y
   all2_at n a[] e = none_some e
   all2_at zero (◌a∷◌ {x} r p) e = (x, refl, (rw (some_inj e) at r))
   all2_at (suc n) (r a∷ p) e = all2_at n p e
@@ -302,7 +303,8 @@ zeros_iff (x ∷ xs) zero = (
     zeros ih e (suc i) l m = ih.0 (and_right (is_zero x) (all is_zero xs) e) i (omega arith) (omega arith)
 zeros_iff (x ∷ xs) (suc n) = (later (zeros_iff xs n), λ h. (zeros_iff xs n).1 (λ i l m. h (suc i) (omega arith) (omega arith)))
   where
-    later : (all is_zero (drop n xs) ≡ true ↔ ((i : ℕ) → n ≤ i → i < length xs → get_or xs i 0 ≡ 0)) → all is_zero (drop n xs) ≡ true → (i : ℕ)
+    later : (all is_zero (drop n xs) ≡ true ↔ ((i : ℕ) → n ≤ i → i < length xs → get_or xs i 0 ≡ 0)) → all is_zero (drop n xs) ≡ true
+        → (i : ℕ)
         → suc n ≤ i → i < suc (length xs) → get_or (x ∷ xs) i 0 ≡ 0
     later ih e zero l m = absurd (not-suc-le-zero l)
     later ih e (suc i) l m = ih.0 e i (omega arith) (omega arith)

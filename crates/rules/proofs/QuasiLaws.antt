@@ -220,7 +220,8 @@ size_fact file s e n f at_f i x h sizes wide =
 
 ---- How many choices there are
 
-flat_length : {A B : Type 0} (g : A → List B) (n : ℕ) → ((x : A) → length (g x) ≡ n) → (xs : List A) → length (flat_map g xs) ≡ length xs * n
+flat_length : {A B : Type 0} (g : A → List B) (n : ℕ) → ((x : A) → length (g x) ≡ n) → (xs : List A)
+    → length (flat_map g xs) ≡ length xs * n
 unfolding flat_map
 flat_length g n h [] = omega arith
 flat_length g n h (x ∷ xs) = length-append (g x) (flat_map g xs) ∙ omega (arith, h x, flat_length g n h xs)

@@ -19,7 +19,8 @@ use Rattle.rules.specs.Records.{four_at, header_at, declaration_at, constructor_
 use Rattle.rules.specs.Records.{header_right, declaration_right, constructor_right, head_right, alternative_right, constructor_offset}
 use Rattle.rules.specs.Records.{alternative_offset, code_offset, instruction_offset, head_offset, record_right, constructor_check}
 use Rattle.rules.specs.Records.{alternative_check, instruction_check, function_right, constructors_right, functions_right, nothing_left}
-use Rattle.rules.specs.Records.{records_right, arguments_of, constructor_of, alternative_of, instruction_of, function_of, program_of, decode}
+use Rattle.rules.specs.Records.{records_right, arguments_of, constructor_of, alternative_of, instruction_of, function_of, program_of}
+use Rattle.rules.specs.Records.{decode}
 use Rattle.rules.specs.There.{FunctionThere, RecordsThere}
 use Rattle.rules.proofs.ListLaws.{and_left, and_right, all_true, all_take}
 use Rattle.rules.proofs.TriedLaws.{bind_found, found_inj, required}
@@ -145,14 +146,16 @@ module _ (bytes : List ℕ) where
     few = le_trans (le_of_eq (arguments_length bytes at t.arity)) t.arity;
     some_code =
         le_trans t.some_code (le_of_eq
-        (sym (numbered_length (λ i. instruction_of (instruction_at bytes (instruction_offset (code_offset bytes at) i))) (word_at bytes (at + 8))
+        (sym (numbered_length (λ i. instruction_of (instruction_at bytes (instruction_offset (code_offset bytes at) i)))
+        (word_at bytes (at + 8))
         0)));
     some_bound =
         le_trans t.some_alternatives (le_of_eq
         (sym (numbered_length (λ k. alternative_of (byte_at bytes (at + 1)) (alternative_at bytes (alternative_offset at k)))
         (byte_at bytes (at + 6)) 0)));
     alternatives =
-        numbered_all (λ k. alternative_of (byte_at bytes (at + 1)) (alternative_at bytes (alternative_offset at k))) (byte_at bytes (at + 6)) 0
+        numbered_all (λ k. alternative_of (byte_at bytes (at + 1)) (alternative_at bytes (alternative_offset at k)))
+        (byte_at bytes (at + 6)) 0
         (λ k l. rw (zero-add k) (alternative_decoded (byte_at bytes (at + 1)) (alternative_offset at k) (t.alternative k l).1));
   }
 

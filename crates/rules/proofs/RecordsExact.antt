@@ -200,7 +200,8 @@ module _ (bytes : List ℕ) where
     where
       P : ℕ → Type 0
       P g =
-          (g < byte_at bytes 3 → Reached bytes (head_offset bytes g) (head g)) × (byte_at bytes 3 ≤ g → Reached bytes (head_offset bytes g) end)
+          (g < byte_at bytes 3 → Reached bytes (head_offset bytes g) (head g))
+          × (byte_at bytes 3 ≤ g → Reached bytes (head_offset bytes g) end)
 
   records_verdict : Verdict (RecordsHold bytes) (RecordsFail bytes) (records_right bytes)
   unfolding records_right

@@ -50,7 +50,8 @@ fits_refused m st cells f i {r} e = one (leb (length st) m.frames) refl (leb (he
 abbrev pub Stepping : CellRule → Program → Tables → State → ℕ → State → Type 0
 Stepping rule s m st cells next =
     ((step_within_by rule s m st cells ≡ found (next, cells + takes_by rule s st)) × Room m next (cells + takes_by rule s st))
-    ⊎ ((number : ℕ) × NoRoom m next (cells + takes_by rule s st) number × (step_within_by rule s m st cells ≡ refused (refusal_at number st)))
+    ⊎ ((number : ℕ) × NoRoom m next (cells + takes_by rule s st) number
+    × (step_within_by rule s m st cells ≡ refused (refusal_at number st)))
 
 pub step_within_lem : (rule : CellRule) (s : Program) (m : Tables) (st : State) (cells : ℕ) (next : State) → step s st ≡ some next
     → Stepping rule s m st cells next
@@ -119,7 +120,8 @@ module _ (rule : CellRule) (s : Program) (m : Tables) (entry : ℕ) (bytes : Lis
     load_bad_arguments a = rw (e, a)
 
     pub load_no_room : {r : Refusal} → arguments_right s f bytes ≡ passed
-        → fits m (start entry (values s bytes)) (cells_loaded_by rule s bytes) entry 1 ≡ refused r → loaded_by rule s m entry bytes ≡ refused r
+        → fits m (start entry (values s bytes)) (cells_loaded_by rule s bytes) entry 1 ≡ refused r
+        → loaded_by rule s m entry bytes ≡ refused r
     unfolding loaded_by
     load_no_room a w = rw (e, a, w)
 

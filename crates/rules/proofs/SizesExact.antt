@@ -23,7 +23,8 @@ use Rattle.rules.specs.Types.{type_rule, types_at}
 use Rattle.rules.specs.Expressions.{Symbol, variable, known, built, called, Expression, variables, replace}
 use Rattle.rules.specs.Forms.{form_of}
 use Rattle.rules.specs.Facts.{Plain}
-use Rattle.rules.specs.Shapes.{Shape, with_stack, split_variable, covered_at, enter, branch_on, shape_from, shape_rule, start_shape, shape_at}
+use Rattle.rules.specs.Shapes.{Shape, with_stack, split_variable, covered_at, enter, branch_on, shape_from, shape_rule, start_shape}
+use Rattle.rules.specs.Shapes.{shape_at}
 use Rattle.rules.specs.Shapes.{sizes_of}
 use Rattle.rules.specs.Judgements.{branch_on_lem, wsh, Covered, SizedBefore, WellSized}
 use Rattle.rules.specs.Refusals.{ArriveWith, TooMany, Many, CoverFails, ManyFails}

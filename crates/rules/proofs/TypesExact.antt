@@ -169,7 +169,8 @@ module _ (s : Program) (n : ℕ) (f : Function) (few : length f.parameters ≤ 1
       one i (some ts) e = low_states s n f few i ts e
 
   -- whatever obeys Table 2 before m has the states up to m, and the rule passes there
-  pub typed_states : (U : ℕ → List ℕ) (m : ℕ) → TypedBefore s f U m → (i : ℕ) → i ≤ m → (ts : List ℕ) → types_at s n f i ≡ some ts → U i ≡ ts
+  pub typed_states : (U : ℕ → List ℕ) (m : ℕ) → TypedBefore s f U m → (i : ℕ) → i ≤ m → (ts : List ℕ) → types_at s n f i ≡ some ts
+      → U i ≡ ts
   typed_states U m W i h ts e =
       some_inj (tab_is (type_rule s n f) f.parameters f.code (λ j. some (U j)) (ap some W.start) m
       (λ j ins lt c x q. rw (← some_inj q) (type_passes s n f U W.low j ins (W.instructions j ins lt c))) i h ts e)

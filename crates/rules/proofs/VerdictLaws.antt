@@ -62,7 +62,8 @@ decides_require t q test =
 -- a rule for each element decides what the rule decides of them, the first refusal counting
 -- the rule fails of an element, and holds of those before it
 abbrev pub EachFails : {A : Type 0} → List A → (ℕ → A → Type 0) → (ℕ → A → Refusal → Type 0) → Refusal → Type 0
-EachFails {A} xs R F r = (i : ℕ) × (x : A) × (get_elem? xs i ≡ some x) × F i x r × ((j : ℕ) (y : A) → j < i → get_elem? xs j ≡ some y → R j y)
+EachFails {A} xs R F r = (i : ℕ) × (x : A) × (get_elem? xs i ≡ some x) × F i x r
+    × ((j : ℕ) (y : A) → j < i → get_elem? xs j ≡ some y → R j y)
 
 module _ {A : Type 0} (rule : ℕ → A → Check) (k : ℕ) (xs : List A) (R : ℕ → A → Type 0) (F : ℕ → A → Refusal → Type 0)
     (rules : (i : ℕ) (x : A) → get_elem? xs i ≡ some x → Decides (rule (k + i) x) (R i x) (F i x)) where

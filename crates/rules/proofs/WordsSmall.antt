@@ -107,7 +107,8 @@ unfolding function_of
 function_small bytes at t = (
   le_trans (le_of_eq (arguments_length bytes at t.arity)) t.arity,
   le_trans (le_of_eq
-      (numbered_length (λ i. instruction_of (instruction_at bytes (instruction_offset (code_offset bytes at) i))) (word_at bytes (at + 8)) 0))
+      (numbered_length (λ i. instruction_of (instruction_at bytes (instruction_offset (code_offset bytes at) i))) (word_at bytes (at + 8))
+      0))
       t.short_code,
 )
 

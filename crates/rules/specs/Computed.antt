@@ -25,7 +25,8 @@ use Rattle.rules.specs.Memory.{begun}
 
 unfoldable pub computed : Unit {0}
 unfolding numbered for_each each
-    weighed checksum used_right block_right verify_block verify_blocks length_right verify payload_of payload verified block_body block blocks_of
+    weighed checksum used_right block_right verify_block verify_blocks length_right verify payload_of payload verified block_body block
+    blocks_of
     block_count packed pack unpack
     header_right declaration_right constructor_right head_right alternative_right operation head_offset record_right function_right
     constructors_right functions_right nothing_left records_right constructor_of alternative_of instruction_of function_of program_of decode
@@ -39,6 +40,7 @@ unfolding numbered for_each each
     checked verdict_of
     current answered execute step after returned result_of
     read_byte read_bytes arguments_right arity_of values written
-    heights fits cells_taken_by cells_loaded_by refusal_at end_of step_within_by continued_by loaded_by started_by delivered_in delivered run_by begun
+    heights fits cells_taken_by cells_loaded_by refusal_at end_of step_within_by continued_by loaded_by started_by delivered_in delivered
+    run_by begun
     entries_of entries table_right lookup text_lines line_right code codes list_of in_room lines_of
 computed = tt

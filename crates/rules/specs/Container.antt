@@ -1,6 +1,7 @@
 -- The container: blocks of 512 bytes with their checksum, which document 01 calls the check, the payload, packing and unpacking. Document
 -- 01, "The file".
-use Rattle.std.specs.Prelude.{List, [], ◌∷◌, ◌++◌, Bool, true, false, ◌&&◌, ℕ, zero, suc, ◌+◌, ◌*◌, ◌-◌, ◌/◌, ◌%◌, length, take, drop, replicate, leb, eqb}
+use Rattle.std.specs.Prelude.{List, [], ◌∷◌, ◌++◌, Bool, true, false, ◌&&◌, ℕ, zero, suc, ◌+◌, ◌*◌, ◌-◌, ◌/◌, ◌%◌, length, take, drop}
+use Rattle.std.specs.Prelude.{replicate, leb, eqb}
 use Rattle.rules.specs.Base.{refusal, Tried, found, ◌>>=◌, Check, passed, require, within, is_zero, all, word_at, long_at}
 
 ---- "Bytes 0-1: block number from 0. 2-3: used count. 4-507: payload. 508-511: the check"

@@ -1,7 +1,8 @@
 -- The machine over heap cells: what stands in the lent tables, one step of it, and the state of values that it stands for. Document 01,
 -- "The run", and document 02, "Constants take no cell". What a run needs of the cells, and what a step does to them, are facts of this
 -- machine and not of the one over values.
-use Rattle.std.specs.Prelude.{if◌then◌else◌, List, [], ◌∷◌, ◌++◌, map, Bool, ℕ, zero, suc, ◌+◌, ◌-◌, ◌<◌, length, get_or, take, drop, eqb, ltb}
+use Rattle.std.specs.Prelude.{if◌then◌else◌, List, [], ◌∷◌, ◌++◌, map, Bool, ℕ, zero, suc, ◌+◌, ◌-◌, ◌<◌, length, get_or, take, drop, eqb}
+use Rattle.std.specs.Prelude.{ltb}
 use Rattle.std.proofs.Math.Option.{Option, none, some}
 use Rattle.rules.specs.declared.records.Instruction.{Instruction}
 use Rattle.rules.specs.declared.records.Instruction.TheVariants.{Load, Build, Call, Branch, Return, Stop}

@@ -36,7 +36,12 @@ declaration_at bytes at = record { result = byte_at bytes at; arity = byte_at by
 
 -- "Constructor, 8 bytes: result type, arity 0-4, four argument types, weight, zero"
 abbrev pub constructor_at : List ℕ → ℕ → ConstructorRecord
-constructor_at bytes at = record { declaration = declaration_at bytes at; weight = byte_at bytes (at + 6); reserved = byte_at bytes (at + 7) }
+constructor_at bytes at = record {
+  declaration = declaration_at bytes at;
+  weight = byte_at bytes (at + 6);
+  reserved =
+      byte_at bytes (at + 7);
+}
 
 -- "Function head, 10 bytes: result type, arity 0-4, four argument types, alternatives 1-4, zero, instruction count L 1-256 (two bytes)"
 abbrev pub head_at : List ℕ → ℕ → HeadRecord
@@ -133,7 +138,8 @@ constructor_check bytes c = record_right 8 bytes (constructor_offset c) (constru
 -- alternative k of the function whose head stands at an offset
 abbrev pub alternative_check : List ℕ → ℕ → ℕ → Check
 alternative_check bytes at k =
-    record_right 6 bytes (alternative_offset at k) (alternative_right (byte_at bytes (at + 1)) (alternative_at bytes (alternative_offset at k)))
+    record_right 6 bytes (alternative_offset at k)
+    (alternative_right (byte_at bytes (at + 1)) (alternative_at bytes (alternative_offset at k)))
 
 -- instruction i, from 0, of code at an offset
 abbrev pub instruction_check : List ℕ → ℕ → ℕ → Check
@@ -184,7 +190,8 @@ unfoldable pub function_of : List ℕ → ℕ → Function
 function_of bytes at = record {
   result = byte_at bytes at;
   parameters = arguments_of (declaration_at bytes at);
-  bound = numbered (λ k. alternative_of (byte_at bytes (at + 1)) (alternative_at bytes (alternative_offset at k))) 0 (byte_at bytes (at + 6));
+  bound = numbered (λ k. alternative_of (byte_at bytes (at + 1)) (alternative_at bytes (alternative_offset at k))) 0
+      (byte_at bytes (at + 6));
   code = numbered (λ i. instruction_of (instruction_at bytes (instruction_offset (code_offset bytes at) i))) 0 (word_at bytes (at + 8));
 }
 

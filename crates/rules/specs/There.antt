@@ -23,6 +23,7 @@ pub record FunctionThere (bytes : List ℕ) (at : ℕ) : Type 0 where
 pub record RecordsThere (bytes : List ℕ) : Type 0 where
   pub header : 4 ≤ length bytes
   pub header_right_lem : header_right (header_at bytes 0) ≡ true
-  pub constructor : (c : ℕ) → c < byte_at bytes 2 → (constructor_offset c + 8 ≤ length bytes) × (byte_at bytes (constructor_offset c + 1) ≤ 4)
+  pub constructor : (c : ℕ) → c < byte_at bytes 2 → (constructor_offset c + 8 ≤ length bytes)
+      × (byte_at bytes (constructor_offset c + 1) ≤ 4)
   pub function : (g : ℕ) → g < byte_at bytes 3 → FunctionThere bytes (head_offset bytes g)
   pub end : head_offset bytes (byte_at bytes 3) ≡ length bytes

@@ -90,7 +90,8 @@ constant_same : (i n w : ℕ) → (spanned i (suc n) w).constant ≡ (spanned (s
 unfolding spanned added variable_only
 constant_same i n w = omega arith
 
-spanned_suc : (i n w j : ℕ) → coefficient (spanned i (suc n) w) j ≡ coefficient (spanned (suc i) n w) j + 1 * coefficient (variable_only i) j
+spanned_suc : (i n w j : ℕ) → coefficient (spanned i (suc n) w) j ≡ coefficient (spanned (suc i) n w) j + 1 * coefficient
+    (variable_only i) j
 unfolding spanned
 spanned_suc i n w j = added_at 1 (variable_only i) (spanned (suc i) n w) j (spanned_wide (suc i) n w) (variable_wide i)
 
@@ -230,7 +231,8 @@ unfolding carried
 carried_end s xs i r h = rw (drop_of_length-le xs h)
 
 numbered_next : (xs : List Split) (i m count : ℕ) → i < length xs → Numbered m (drop i xs) count
-    → ((get_or xs i no_split).variable < m) × ((get_or xs i no_split).first ≡ m) × Numbered (m + (get_or xs i no_split).parts) (drop (i + 1) xs) count
+    → ((get_or xs i no_split).variable < m) × ((get_or xs i no_split).first ≡ m)
+    × Numbered (m + (get_or xs i no_split).parts) (drop (i + 1) xs) count
 numbered_next xs i m count h n = rw (add-one i) (rw (drop-cons xs i no_split h) at n)
 
 module _ {file : List ℕ} {a r : Alternative} {t : ℕ} {ps : List Split} (h : Carrying file a t ps) {i m : ℕ} (l : i < t)
@@ -272,4 +274,5 @@ module _ {file : List ℕ} {a r : Alternative} {t : ℕ} {ps : List Split} (h : 
   pub carrying_left : carried (program_in file) (drop i (take t ps)) r
       ≡ carried (program_in file) (drop (i + 1) (take t ps))
       (put (get_or ps i no_split).variable (split_a (program_in file) (get_or ps i no_split)) r)
-  carrying_left = let e = taken_length in rw (get_or-take t ps i no_split l) at (carried_next (program_in file) (take t ps) i r (omega arith))
+  carrying_left = let e = taken_length in rw (get_or-take t ps i no_split l) at
+      (carried_next (program_in file) (take t ps) i r (omega arith))

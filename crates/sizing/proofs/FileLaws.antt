@@ -13,7 +13,8 @@ use Rattle.rules.specs.Base.{refusal, numbered, is_zero, all, any, byte_at, word
 use Rattle.rules.specs.Container.{payload}
 use Rattle.rules.specs.Program.{Constructor, Function, arity, constructor, function}
 use Rattle.rules.specs.Records.{alternative_at, constructor_at, instruction_at, past_zero, alternative_right, constructor_offset}
-use Rattle.rules.specs.Records.{alternative_offset, code_offset, instruction_offset, head_offset, constructor_of, alternative_of, instruction_of}
+use Rattle.rules.specs.Records.{alternative_offset, code_offset, instruction_offset, head_offset, constructor_of, alternative_of}
+use Rattle.rules.specs.Records.{instruction_of}
 use Rattle.rules.specs.Records.{function_of, program_of, four_at, program_in, function_in}
 use Rattle.rules.specs.Declarations.{counted, argument_rule, bound_rule, bounds_right}
 use Rattle.rules.specs.Stacks.{slot}

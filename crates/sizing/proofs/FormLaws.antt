@@ -12,7 +12,8 @@ use Rattle.rules.specs.declared.records.Alternative.{Alternative}
 use Rattle.rules.specs.Program.{constructor, function, Constructor, Function, Program}
 use Rattle.rules.specs.Tree.{Trees, node, nil, cons}
 use Rattle.rules.specs.Expressions.{Symbol, variable, known, built, called, Expression, replace, replace_all}
-use Rattle.rules.specs.Forms.{Form, added, constant_only, variable_only, flat_map, substituted, into_bound, built_form, called_form, form_of}
+use Rattle.rules.specs.Forms.{Form, added, constant_only, variable_only, flat_map, substituted, into_bound, built_form, called_form}
+use Rattle.rules.specs.Forms.{form_of}
 use Rattle.rules.specs.Forms.{forms_of}
 use Rattle.rules.specs.Lists.{All, ◌l∷◌}
 use Rattle.rules.proofs.Measures.{substituted_wide, forms_wide}

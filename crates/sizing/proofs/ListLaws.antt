@@ -35,7 +35,8 @@ element_at d [] k h = absurd (omega arith)
 element_at d (x ∷ xs) zero h = refl
 element_at d (x ∷ xs) (suc k) h = element_at d xs k (omega arith)
 
-pub get_d_of_map : {A B : Type 0} (g : A → B) (xs : List A) (k : ℕ) (d : A) (e : B) → k < length xs → get_or (map g xs) k e ≡ g (get_or xs k d)
+pub get_d_of_map : {A B : Type 0} (g : A → B) (xs : List A) (k : ℕ) (d : A) (e : B) → k < length xs
+    → get_or (map g xs) k e ≡ g (get_or xs k d)
 get_d_of_map g [] k d e h = absurd (omega arith)
 get_d_of_map g (x ∷ xs) zero d e h = refl
 get_d_of_map g (x ∷ xs) (suc k) d e h = get_d_of_map g xs k d e (omega arith)

@@ -109,7 +109,8 @@ module _ {file heads : List ℕ} {g i : ℕ} {st : Saved} {ins : Instruction} (a
   goes : (L : List (Arrow Shape)) → shape_from (program_in file) g (function_in file g) i ins (shape_in (function_in file g) st)
       ≡ found L
       → (arrows : List (Arrow Shape)) → first (arriving i arrows) ≡ standing (function_in file g) st
-      → left_from (program_in file) g (function_in file g) i arrows ≡ left_from (program_in file) g (function_in file g) (i + 1) (L ++ arrows)
+      → left_from (program_in file) g (function_in file g) i arrows ≡ left_from (program_in file) g (function_in file g) (i + 1)
+      (L ++ arrows)
   goes L h arrows q =
       rw (add-one i) (outcome_goes (shape_rule (program_in file) g (function_in file g)) (function_in file g).code i arrows a.is
       (shape_in (function_in file g) st) L (arrives arrows q) (rule ∙ h))
@@ -248,7 +249,8 @@ module _ {file heads : List ℕ} {g i : ℕ} {st : Saved} {c b : ℕ} (a : MoveA
       pub said_branch_large : {m : Moved} → r.large ≡ true
           → m.checked ≡ checked.Refused (TooManyForms (record { function = g; instruction = i })) → StepSays file g i st m
       said_branch_large z e =
-          said_refused e (λ arrows f. outcome_refused (shape_rule (program_in file) g (function_in file g)) (function_in file g).code i arrows
+          said_refused e (λ arrows f. outcome_refused (shape_rule (program_in file) g (function_in file g)) (function_in file g).code i
+          arrows
           a.is (shape_in (function_in file g) st) (refusal 9 g i) (arrives a arrows f) (rule a ∙ said.large z))
 
       pub said_branch : r.large ≡ false → (near far : ℕ) → near ≡ (if r.next.visited then i + 1 else 0)

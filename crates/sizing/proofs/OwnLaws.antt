@@ -139,7 +139,8 @@ widened_at k (suc c ∷ cs) w (suc i) h =
 
 -- as the code has it
 pub widened_four : (cs : List ℕ) (w : ℕ) → length cs ≡ 4
-    → record { coefficients = get_or cs 0 0 ∷ get_or cs 1 0 ∷ get_or cs 2 0 ∷ get_or cs 3 0 ∷ replicate 12 0; constant = w } ≡ widened 0 cs w
+    → record { coefficients = get_or cs 0 0 ∷ get_or cs 1 0 ∷ get_or cs 2 0 ∷ get_or cs 3 0 ∷ replicate 12 0; constant = w } ≡ widened 0
+    cs w
 widened_four cs w e =
     alternative_ext (record { coefficients = get_or cs 0 0 ∷ get_or cs 1 0 ∷ get_or cs 2 0 ∷ get_or cs 3 0 ∷ replicate 12 0; constant = w })
     (widened 0 cs w) refl (widened_wide 0 cs w)

@@ -33,7 +33,8 @@ module _ {file heads : List ℕ} (w : Walking file heads) {g : ℕ} (t : g < byt
 
     at_there : (1 ≤ i) × (i ≤ length (function_in file g).code)
     at_there =
-        chart.at_there (program_in file) g (function_in file g) (flow_right_lem w g t) (types_right_lem w g t) (few_parameters w g t) i h p y
+        chart.at_there (program_in file) g (function_in file g) (flow_right_lem w g t) (types_right_lem w g t) (few_parameters w g t) i h
+        p y
 
     -- where it stands, if the code starts at base
     pub at_place : (base : ℕ) → base ≡ code_offset (payload file) (head_offset (payload file) g) → (1 ≤ i)
@@ -56,24 +57,28 @@ module _ {file heads : List ℕ} (w : Walking file heads) {g : ℕ} (t : g < byt
     pub at_load : (a : ℕ) → slot i (function_in file g).code ≡ some (Load a) → (1 ≤ a) × (a ≤ h)
         × ReachedAt (program_in file) g (function_in file g) (suc i) (h + 1) p
     at_load a e =
-        chart.at_load (program_in file) g (function_in file g) (flow_right_lem w g t) (types_right_lem w g t) (few_parameters w g t) i h p a y e
+        chart.at_load (program_in file) g (function_in file g) (flow_right_lem w g t) (types_right_lem w g t) (few_parameters w g t) i h p
+        a y e
 
     pub at_build : (c : ℕ) → slot i (function_in file g).code ≡ some (Build c)
         → (k : Constructor) × (constructor (program_in file) c ≡ some k) × (length k.arguments ≤ h)
         × ReachedAt (program_in file) g (function_in file g) (suc i) (h - length k.arguments + 1) true
     at_build c e =
-        chart.at_build (program_in file) g (function_in file g) (flow_right_lem w g t) (types_right_lem w g t) (few_parameters w g t) i h p c y e
+        chart.at_build (program_in file) g (function_in file g) (flow_right_lem w g t) (types_right_lem w g t) (few_parameters w g t) i h
+        p c y e
 
     pub at_call : (c : ℕ) → slot i (function_in file g).code ≡ some (Call c)
         → (k : Function) × (function (program_in file) c ≡ some k) × (arity k ≤ h)
         × ReachedAt (program_in file) g (function_in file g) (suc i) (h - arity k + 1) true
     at_call c e =
-        chart.at_call (program_in file) g (function_in file g) (flow_right_lem w g t) (types_right_lem w g t) (few_parameters w g t) i h p c y e
+        chart.at_call (program_in file) g (function_in file g) (flow_right_lem w g t) (types_right_lem w g t) (few_parameters w g t) i h p
+        c y e
 
     pub at_branch : (c b : ℕ) → slot i (function_in file g).code ≡ some (Branch c b)
         → (p ≡ false) × Branches (program_in file) g (function_in file g) i h c b
     at_branch c b e =
-        chart.at_branch (program_in file) g (function_in file g) (flow_right_lem w g t) (types_right_lem w g t) (few_parameters w g t) i h p c b y e
+        chart.at_branch (program_in file) g (function_in file g) (flow_right_lem w g t) (types_right_lem w g t) (few_parameters w g t) i h
+        p c b y e
 
     -- what an instruction names is there
     pub operand_there : (ins : Instruction) → slot i (function_in file g).code ≡ some ins → OperandThere (payload file) ins

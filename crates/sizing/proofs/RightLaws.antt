@@ -12,7 +12,8 @@ use Rattle.sizing.proofs.CodeLaws.{wide_get}
 pub form_length : (f : Form) → FormRight f → length (form_in f) ≡ f.count
 form_length f r = let l = r.long in let m = r.few in length-take-le f.count f.alternatives (omega arith)
 
-pub form_at : (f : Form) → FormRight f → (i : ℕ) → i < f.count → get_or (form_in f) i no_alternative ≡ get_or f.alternatives i no_alternative
+pub form_at : (f : Form) → FormRight f → (i : ℕ) → i < f.count
+    → get_or (form_in f) i no_alternative ≡ get_or f.alternatives i no_alternative
 form_at f r i h = get_or-take f.count f.alternatives i no_alternative h
 
 pub form_wide : (f : Form) → FormRight f → (i : ℕ) → i < f.count → Wide (get_or f.alternatives i no_alternative)

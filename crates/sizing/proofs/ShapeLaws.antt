@@ -132,7 +132,11 @@ module _ (s : Program) (n : ℕ) (f : Function) (ps : List Split) (count : ℕ) 
       ≡ found ((suc i, shape_of f ps count (stack ++ (get_or stack k 0 ∷ []))) ∷ [])
   unfolding shape_from
   load_rule i k h =
-      rw (element_map (λ v. through ps (variable_e v)) 0 stack k h, map-append (λ v. through ps (variable_e v)) stack (get_or stack k 0 ∷ []))
+      rw (
+        element_map (λ v. through ps (variable_e v)) 0 stack k h,
+        map-append (λ v. through ps (variable_e v)) stack
+            (get_or stack k 0 ∷ []),
+      )
 
   -- a branch on a variable that was taken apart
   module _ (i b : ℕ) (rest : List ℕ) (v : ℕ) (top : stack ≡ rest ++ (v ∷ [])) (p : Split) (g : Splitting v ps p) (c : ℕ) (k : Constructor)

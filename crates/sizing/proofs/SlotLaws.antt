@@ -143,7 +143,8 @@ module _ (file : List ℕ) (g : ℕ) where
 
 ---- The start
 
-numbers_start : (n : ℕ) → n ≤ 4 → map (λ v. variable_e v) (take n (0 ∷ 1 ∷ 2 ∷ 3 ∷ 4 ∷ 5 ∷ 6 ∷ 7 ∷ 8 ∷ 9 ∷ 10 ∷ 11 ∷ 12 ∷ 13 ∷ 14 ∷ 15 ∷ []))
+numbers_start : (n : ℕ) → n ≤ 4 → map (λ v. variable_e v)
+    (take n (0 ∷ 1 ∷ 2 ∷ 3 ∷ 4 ∷ 5 ∷ 6 ∷ 7 ∷ 8 ∷ 9 ∷ 10 ∷ 11 ∷ 12 ∷ 13 ∷ 14 ∷ 15 ∷ []))
     ≡ variables 0 n
 unfolding variables
 numbers_start zero h = refl
@@ -229,7 +230,8 @@ module _ {file heads : List ℕ} {g : ℕ} (a : FunctionAsks file heads g) {r : 
       record {
         arrows = (1, shape_in (function_in file g) x) ∷ [];
         whole = rw (start_shape_lem (function_in file g) x (few_parameters a.walking g a.there) q)
-            (sym (walk_judged (shape_rule (program_in file) g (function_in file g)) (start_shape (function_in file g)) (function_in file g).code
+            (sym (walk_judged (shape_rule (program_in file) g (function_in file g)) (start_shape (function_in file g))
+            (function_in file g).code
             (flow_right_lem a.walking g a.there).tree (shape_among (program_in file) g (function_in file g))));
         some_i = omega arith;
         standing_in =

@@ -119,7 +119,8 @@ pub record LineGoes (file : List ℕ) (g start : ℕ) (from : Shape) (own : Form
 -- from every shape that the forms at the start stand for
 abbrev pub Line : List ℕ → ℕ → ℕ → Form → List Form → ℕ → List Form → ℕ → ℕ → Type 0
 Line file g start own stack₀ height₀ stack height j =
-    (from : Shape) → LineRight (program_in file) (function_in file g) from own stack₀ height₀ → LineGoes file g start from own stack height j
+    (from : Shape) → LineRight (program_in file) (function_in file g) from own stack₀ height₀
+    → LineGoes file g start from own stack height j
 
 module _ {file heads : List ℕ} {g : ℕ} {r : Routine} {start : ℕ} {st : Saved} (a : LineAsks file heads g r start st) where
   ---- The start
@@ -227,7 +228,8 @@ module _ {file heads : List ℕ} {g : ℕ} {r : Routine} {start : ℕ} {st : Sav
     pub line_end : (ins : Instruction) → slot j (function_in file g).code ≡ some ins → (m : Maker) → MakerIs (payload file) ins m
         → m.makes ≡ false → ((x : ℕ) → ins ≡ Load x → ⊥)
         → ((arrows : List (Arrow Shape)) → first (arriving start arrows) ≡ some from
-        → left_from (program_in file) g (function_in file g) start arrows ≡ left_from (program_in file) g (function_in file g) (j + 1) arrows)
+        → left_from (program_in file) g (function_in file g) start arrows ≡ left_from (program_in file) g (function_in file g) (j + 1)
+        arrows)
         × (start < j + 1)
     unfolding shape_from
     line_end ins e m k z other = ((λ arrows h. l.left arrows h ∙ ends ins e m k z other arrows), (let b = l.behind in omega arith))

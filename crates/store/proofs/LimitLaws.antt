@@ -93,7 +93,8 @@ wiped n l l' h c =
     tail i b =
         let e : length (zeroes n) + (i - n) ≡ i = omega (arith, length-replicate {A = ℕ} n 0) in
         let f : n + (i - n) ≡ i = omega arith in
-        ap (λ (j : ℕ). get_or (zeroes n ++ drop n l) j 0) (sym e) ∙ get_or-append-add (zeroes n) (drop n l) (i - n) 0 ∙ get_or-drop n l (i - n) 0
+        ap (λ (j : ℕ). get_or (zeroes n ++ drop n l) j 0) (sym e) ∙ get_or-append-add (zeroes n) (drop n l) (i - n) 0
+        ∙ get_or-drop n l (i - n) 0
         ∙ ap (λ (j : ℕ). get_or l j 0) f
 
 -- entries that are not usable were kept before: the same as if the table had been wiped at once
@@ -132,11 +133,6 @@ one_zero i l h = let e : suc i ≡ i + 1 = omega arith in go i l h ∙ ap (λ (k
     go zero (x ∷ l) lt = refl
     go (suc i) [] lt = absurd (not-suc-le-zero lt)
     go (suc i) (x ∷ l) lt = ap (λ (t : List Frame). no_frame ∷ t) (go i l (le_of_suc-le-suc lt))
-
-pub zero_length : (i : ℕ) (l : List Frame) → length (zero_first i l) ≡ length l
-zero_length zero l = refl
-zero_length (suc i) [] = refl
-zero_length (suc i) (x ∷ l) = ap suc (zero_length i l)
 
 pub zero_all : (n : ℕ) (l : List Frame) → n ≤ length l → zero_first n l ≡ table_after true no_frame n l
 unfolding table_after

@@ -96,7 +96,8 @@ module _ {file : List ℕ} {h : Header} {heads : List ℕ} (o : LaidOut file h h
       (finds_some (ap function_signature (function_known o.headed g l)) (function_there o.headed g l).arity)
 
   -- its flow is right, where its head stands by the layout
-  pub flow_placed : flow_right (program_in file) ≡ passed → g < h.functions → flow_of g (function_of (payload file) (get_or heads g 0)) ≡ passed
+  pub flow_placed : flow_right (program_in file) ≡ passed → g < h.functions
+      → flow_of g (function_of (payload file) (get_or heads g 0)) ≡ passed
   flow_placed e l = rw (head_placed o g l) (flow_passed o.headed e g l)
 
 ---- The rules over what is found

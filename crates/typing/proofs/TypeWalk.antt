@@ -125,67 +125,68 @@ module _ (bytes : List ℕ) (at g : ℕ) (c : Code) where
     here_aims e = rw e (aims s.flow.tree (suc k) (code_at bytes c.base k) here_slot)
 
     module _ {ins : Instruction} (is : ins ≡ code_at bytes c.base k) {r : TypedStep}
-        (says : TypeSays g (k + 1) (stack_of (get_or w (k + 1) no_stack)) r (typing (k + 1) ins (stack_of (get_or w (k + 1) no_stack)))) where
-      here_says : TypeSays g (suc k) (stack_of now) r (typing (suc k) (code_at bytes c.base k) (stack_of now))
-      here_says = rw (add-one k, is) at says
+        (says : TypeSays g (k + 1) (stack_of (get_or w (k + 1) no_stack)) r (typing (k + 1) ins (stack_of (get_or w (k + 1) no_stack))))
+      where
+        here_says : TypeSays g (suc k) (stack_of now) r (typing (suc k) (code_at bytes c.base k) (stack_of now))
+        here_says = rw (add-one k, is) at says
 
-      here_rule : rule k ≡ only (typed_of g (suc k) (stack_of now) r)
-      here_rule = rw (here_is, here_says.says)
+        here_rule : rule k ≡ only (typed_of g (suc k) (stack_of now) r)
+        here_rule = rw (here_is, here_says.says)
 
-      pub typing_wrong : r.wrong ≡ true → refused (refusal 8 g (k + 1)) ≡ whole
-      unfolding typed_of
-      typing_wrong e =
-          ap (λ (i : ℕ). refused (refusal 8 g i)) (add-one k) ∙ pass_stop s.passing h (here_rule ∙ rw e) ∙ typing_whole s.code
-
-      module _ (fine : r.wrong ≡ false) where
-        abbrev leaving : List (Arrow (List ℕ))
-        leaving = arrow_to r.on (stack_of r.stack) ++ arrow_to r.to (stack_of now)
-
-        here_leaves : typing (suc k) (code_at bytes c.base k) (stack_of now) ≡ found leaving
+        pub typing_wrong : r.wrong ≡ true → refused (refusal 8 g (k + 1)) ≡ whole
         unfolding typed_of
-        here_leaves = sym here_says.says ∙ rw fine
+        typing_wrong e =
+            ap (λ (i : ℕ). refused (refusal 8 g i)) (add-one k) ∙ pass_stop s.passing h (here_rule ∙ rw e) ∙ typing_whole s.code
 
-        here_all : (j : ℕ) → count j leaving ≡ hits j (targets (suc k) (code_at bytes c.base k))
-        here_all = type_all (program_of bytes) g fn (suc k) (code_at bytes c.base k) (stack_of now) leaving here_leaves
+        module _ (fine : r.wrong ≡ false) where
+          abbrev leaving : List (Arrow (List ℕ))
+          leaving = arrow_to r.on (stack_of r.stack) ++ arrow_to r.to (stack_of now)
 
-        -- what leaves stays within the code
-        within : (j : ℕ) (x : List ℕ) → In (j, x) leaving → j ≤ c.last
-        within j x m =
-            let l = hits_all j (s.flow.tree.ahead (suc k) (code_at bytes c.base k) here_slot)
-            (rw (here_all j) at (arrow_count leaving (j, x) m)) in
-            omega (arith, l.1, code_length s.code)
+          here_leaves : typing (suc k) (code_at bytes c.base k) (stack_of now) ≡ found leaving
+          unfolding typed_of
+          here_leaves = sym here_says.says ∙ rw fine
 
-        pub typing_room : (r.on ≤ c.last) × (r.to ≤ c.last)
-        unfolding arrow_to
-        typing_room = (on r.on refl, to r.to refl)
-          where
-            on : (t : ℕ) → r.on ≡ t → t ≤ c.last
-            on zero e = omega arith
-            on (suc t) e =
-                within (suc t) (stack_of r.stack) (rw e (any_append_left {xs = (suc t, stack_of r.stack) ∷ []}
-                (arrow_to r.to (stack_of now)) (here refl)))
+          here_all : (j : ℕ) → count j leaving ≡ hits j (targets (suc k) (code_at bytes c.base k))
+          here_all = type_all (program_of bytes) g fn (suc k) (code_at bytes c.base k) (stack_of now) leaving here_leaves
 
-            to : (t : ℕ) → r.to ≡ t → t ≤ c.last
-            to zero e = omega arith
-            to (suc t) e = within (suc t) (stack_of now) (rw e (any_append_right (arrow_to r.on (stack_of r.stack)) (here refl)))
+          -- what leaves stays within the code
+          within : (j : ℕ) (x : List ℕ) → In (j, x) leaving → j ≤ c.last
+          within j x m =
+              let l = hits_all j (s.flow.tree.ahead (suc k) (code_at bytes c.base k) here_slot)
+              (rw (here_all j) at (arrow_count leaving (j, x) m)) in
+              omega (arith, l.1, code_length s.code)
 
-        pub typing_next : Typing (k + 1) (set (set w r.to (get_or w (k + 1) no_stack)) r.on r.stack)
-        unfolding typed_of
-        typing_next =
-            let good : rule k ≡ passed = here_rule ∙ rw fine in
-            let long = code_length s.code in
-            let room = typing_room in
-            record {
-              code = s.code;
-              flow = s.flow;
-              walking = rw (add-one k)
-                  (walking_next typing fn.parameters fn.code Holds no_stack s.walking inside s.flow.tree (code_at bytes
-                  c.base k)
-                  here_slot (stack_of now) here_is r.on r.to (stack_of r.stack) (stack_of now) r.stack now here_leaves
-                  (λ j. le_of_eq (here_all j)) (omega (arith, room.0)) (omega (arith, room.1))
-                  (record { sound = here_says.sound; is = refl }) (record { sound = here_holds.sound; is = refl }));
-              passing = pass_next s.passing h good;
-            }
+          pub typing_room : (r.on ≤ c.last) × (r.to ≤ c.last)
+          unfolding arrow_to
+          typing_room = (on r.on refl, to r.to refl)
+            where
+              on : (t : ℕ) → r.on ≡ t → t ≤ c.last
+              on zero e = omega arith
+              on (suc t) e =
+                  within (suc t) (stack_of r.stack) (rw e (any_append_left {xs = (suc t, stack_of r.stack) ∷ []}
+                  (arrow_to r.to (stack_of now)) (here refl)))
+
+              to : (t : ℕ) → r.to ≡ t → t ≤ c.last
+              to zero e = omega arith
+              to (suc t) e = within (suc t) (stack_of now) (rw e (any_append_right (arrow_to r.on (stack_of r.stack)) (here refl)))
+
+          pub typing_next : Typing (k + 1) (set (set w r.to (get_or w (k + 1) no_stack)) r.on r.stack)
+          unfolding typed_of
+          typing_next =
+              let good : rule k ≡ passed = here_rule ∙ rw fine in
+              let long = code_length s.code in
+              let room = typing_room in
+              record {
+                code = s.code;
+                flow = s.flow;
+                walking = rw (add-one k)
+                    (walking_next typing fn.parameters fn.code Holds no_stack s.walking inside s.flow.tree (code_at bytes
+                    c.base k)
+                    here_slot (stack_of now) here_is r.on r.to (stack_of r.stack) (stack_of now) r.stack now here_leaves
+                    (λ j. le_of_eq (here_all j)) (omega (arith, room.0)) (omega (arith, room.1))
+                    (record { sound = here_says.sound; is = refl }) (record { sound = here_holds.sound; is = refl }));
+                passing = pass_next s.passing h good;
+              }
 
 pub aims_branch : {ins : Instruction} {c b : ℕ} → ins ≡ Branch c b → Aims ins → 1 ≤ b
 aims_branch e a = rw e at a

@@ -15,5 +15,11 @@ returns-then-why-eq-NO_STACK c = same_number c.args.place c.if-why-eq-NO_STACK.t
 
 pub returns : goal.returns
 returns c =
-    let why : c.args.why ≡ 15 = omega (arith, c.if-why-eq-NO_STACK.false, c.if-why-eq-NO_FRAMES.false, c.if-why-eq-NO_STEPS.false, c.requires) in
+    let why : c.args.why ≡ 15 = omega (
+      arith,
+      c.if-why-eq-NO_STACK.false,
+      c.if-why-eq-NO_FRAMES.false,
+      c.if-why-eq-NO_STEPS.false,
+      c.requires,
+    ) in
     same_number c.args.place why

@@ -16,7 +16,8 @@ pub alternative_from-requires : goal.alternative_from-requires
 alternative_from-requires c = near_reaches (spot (goal.at.alternative_from-requires c).After-left_in_block-left) c.if-left-ge6.true
 
 pub returns-then-left-ge6 : goal.returns-then-left-ge6
-returns-then-left-ge6 c = c.alternative_from.ensures ∙ alternative_same (near_same (spot (goal.at.returns-then-left-ge6 c).After-left_in_block-left) c.if-left-ge6.true)
+returns-then-left-ge6 c = c.alternative_from.ensures
+    ∙ alternative_same (near_same (spot (goal.at.returns-then-left-ge6 c).After-left_in_block-left) c.if-left-ge6.true)
 
 pub alternative_from-requires-2 : goal.alternative_from-requires-2
 alternative_from-requires-2 c = far_reaches (spot (goal.at.alternative_from-requires-2 c).After-left_in_block-left)

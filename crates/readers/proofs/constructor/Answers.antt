@@ -16,7 +16,8 @@ pub constructor_from-requires : goal.constructor_from-requires
 constructor_from-requires c = near_reaches (spot (goal.at.constructor_from-requires c).After-left_in_block-left) c.if-left-ge8.true
 
 pub returns-then-left-ge8 : goal.returns-then-left-ge8
-returns-then-left-ge8 c = c.constructor_from.ensures ∙ constructor_same (near_same (spot (goal.at.returns-then-left-ge8 c).After-left_in_block-left) c.if-left-ge8.true)
+returns-then-left-ge8 c = c.constructor_from.ensures
+    ∙ constructor_same (near_same (spot (goal.at.returns-then-left-ge8 c).After-left_in_block-left) c.if-left-ge8.true)
 
 pub constructor_from-requires-2 : goal.constructor_from-requires-2
 constructor_from-requires-2 c = far_reaches (spot (goal.at.constructor_from-requires-2 c).After-left_in_block-left)

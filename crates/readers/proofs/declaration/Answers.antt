@@ -16,7 +16,8 @@ pub declaration_from-requires : goal.declaration_from-requires
 declaration_from-requires c = near_reaches (spot (goal.at.declaration_from-requires c).After-left_in_block-left) c.if-left-ge6.true
 
 pub returns-then-left-ge6 : goal.returns-then-left-ge6
-returns-then-left-ge6 c = c.declaration_from.ensures ∙ declaration_same (near_same (spot (goal.at.returns-then-left-ge6 c).After-left_in_block-left) c.if-left-ge6.true)
+returns-then-left-ge6 c = c.declaration_from.ensures
+    ∙ declaration_same (near_same (spot (goal.at.returns-then-left-ge6 c).After-left_in_block-left) c.if-left-ge6.true)
 
 pub declaration_from-requires-2 : goal.declaration_from-requires-2
 declaration_from-requires-2 c = far_reaches (spot (goal.at.declaration_from-requires-2 c).After-left_in_block-left)

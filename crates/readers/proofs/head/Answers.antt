@@ -16,7 +16,8 @@ pub head_from-requires : goal.head_from-requires
 head_from-requires c = near_reaches (spot (goal.at.head_from-requires c).After-left_in_block-left) c.if-left-ge10.true
 
 pub returns-then-left-ge10 : goal.returns-then-left-ge10
-returns-then-left-ge10 c = c.head_from.ensures ∙ head_same (near_same (spot (goal.at.returns-then-left-ge10 c).After-left_in_block-left) c.if-left-ge10.true)
+returns-then-left-ge10 c = c.head_from.ensures ∙ head_same
+    (near_same (spot (goal.at.returns-then-left-ge10 c).After-left_in_block-left) c.if-left-ge10.true)
 
 pub head_from-requires-2 : goal.head_from-requires-2
 head_from-requires-2 c = far_reaches (spot (goal.at.head_from-requires-2 c).After-left_in_block-left)

@@ -16,7 +16,8 @@ pub instruction_from-requires : goal.instruction_from-requires
 instruction_from-requires c = near_reaches (spot (goal.at.instruction_from-requires c).After-left_in_block-left) c.if-left-ge4.true
 
 pub returns-then-left-ge4 : goal.returns-then-left-ge4
-returns-then-left-ge4 c = c.instruction_from.ensures ∙ instruction_same (near_same (spot (goal.at.returns-then-left-ge4 c).After-left_in_block-left) c.if-left-ge4.true)
+returns-then-left-ge4 c = c.instruction_from.ensures
+    ∙ instruction_same (near_same (spot (goal.at.returns-then-left-ge4 c).After-left_in_block-left) c.if-left-ge4.true)
 
 pub instruction_from-requires-2 : goal.instruction_from-requires-2
 instruction_from-requires-2 c = far_reaches (spot (goal.at.instruction_from-requires-2 c).After-left_in_block-left)

@@ -20,7 +20,8 @@ summed : (c : Else-long_at-checksum) → eqb (long_at c.args.b.now 508)
 summed c = eq-eqb _ _ (sym c.long_at.ensures ∙ c.if-long_at-checksum.false ∙ c.checksum.ensures)
 
 pub returns-then-block_right : goal.returns-then-block_right
-returns-then-block_right c = sym (block_tested _ _ _ (summed (goal.at.returns-then-block_right c).Else-long_at-checksum) (sym c.block_right.ensures ∙ c.if-block_right.true))
+returns-then-block_right c = sym (block_tested _ _ _ (summed (goal.at.returns-then-block_right c).Else-long_at-checksum)
+    (sym c.block_right.ensures ∙ c.if-block_right.true))
 
 pub returns : goal.returns
 returns c = sym (block_tested _ _ _ (summed (goal.at.returns c).Else-long_at-checksum) (sym c.block_right.ensures ∙ c.if-block_right.false))

@@ -54,7 +54,8 @@ verify_block-checked-requires c = simp (length-take, length-drop) (omega arith)
 left : (c : After-verify_block-checked)
     → let s = c.args.file.now in
     let k = c.loop-k.k in
-    verify s ≡ (told_check c.verify_block-checked.result >>= (λ _. verify_blocks (length s / 512 - (k + 1)) (k + 1) (drop (512 * (k + 1)) s)))
+    verify s ≡ (told_check c.verify_block-checked.result >>=
+    (λ _. verify_blocks (length s / 512 - (k + 1)) (k + 1) (drop (512 * (k + 1)) s)))
 left c =
     let s = c.args.file.now in
     let k = c.loop-k.k in

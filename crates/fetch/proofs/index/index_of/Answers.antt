@@ -29,7 +29,11 @@ pub index_function-next-requires : goal.index_function-next-requires
 index_function-next-requires c =
     let o = c.requires in (
       omega (arith, below (goal.at.index_function-next-requires c).In-loop-f, functions_few o.headed),
-      omega (arith, head_there o c.loop-f.f _ (below (goal.at.index_function-next-requires c).In-loop-f) refl, o.headed.parsed.verified.small),
+      omega (
+        arith,
+        head_there o c.loop-f.f _ (below (goal.at.index_function-next-requires c).In-loop-f) refl,
+        o.headed.parsed.verified.small,
+      ),
     )
 
 pub loop-f-preserved : goal.loop-f-preserved

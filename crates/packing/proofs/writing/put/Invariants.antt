@@ -8,7 +8,8 @@ use Rattle.packing.proofs.writing.put.Given as goal
 
 abbrev pub invariant-loop-i : goal.invariant-loop-i
 invariant-loop-i l =
-    Pasted l.initial.out l.at l.bytes l.i l.out × (l.total ≤ 130560 * (l.at + l.i)) × (l.total ≡ l.sum + weighed (l.at + 1) (take l.i l.bytes))
+    Pasted l.initial.out l.at l.bytes l.i l.out × (l.total ≤ 130560 * (l.at + l.i))
+    × (l.total ≡ l.sum + weighed (l.at + 1) (take l.i l.bytes))
 
 abbrev pub decreases-loop-i : goal.decreases-loop-i
 decreases-loop-i l = length l.bytes - l.i

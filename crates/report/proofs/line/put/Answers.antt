@@ -32,4 +32,8 @@ pub shape_of-line : goal.shape_of-line
 shape_of-line c = c.loop-i.invariant.same
 
 pub returns : goal.returns
-returns c = let l = c.loop-i in record { value = omega (arith, l.invariant.within); line_after = pasted_end l.invariant c.loop-i-test.false }
+returns c = let l = c.loop-i in record {
+  value = omega (arith, l.invariant.within);
+  line_after =
+      pasted_end l.invariant c.loop-i-test.false;
+}

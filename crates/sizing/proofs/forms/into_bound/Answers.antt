@@ -65,7 +65,8 @@ returns-then-had-made-gt16 c =
     let z = c.no_form.ensures.1 in
     record {
       many =
-          λ g. joining_over c.loop-i.invariant.1 c.loop-i-test.true (made (goal.at.returns-then-had-made-gt16 c).After-substitute-y) c.if-made-eq0.false
+          λ g. joining_over c.loop-i.invariant.1 c.loop-i-test.true (made (goal.at.returns-then-had-made-gt16 c).After-substitute-y)
+          c.if-made-eq0.false
           c.if-had-made-gt16.true;
       right = λ g. absurd (omega arith);
     }

@@ -8,8 +8,10 @@ use Rattle.sizing.proofs.splits.carry.Given as goal
 
 abbrev pub invariant-loop-i : goal.invariant-loop-i
 invariant-loop-i l =
-    (l.i ≤ l.n) × (carried (program_in l.file) (take l.n l.s.list) l.initial.r ≡ carried (program_in l.file) (drop l.i (take l.n l.s.list)) l.r)
-    × ((p : Carrying l.file l.initial.r l.n l.s.list) → (m : ℕ) × Loose m (65535 + 3825 * l.i) l.r × Numbered m (drop l.i (take l.n l.s.list)) p.count)
+    (l.i ≤ l.n) × (carried (program_in l.file) (take l.n l.s.list) l.initial.r ≡ carried (program_in l.file)
+    (drop l.i (take l.n l.s.list)) l.r)
+    × ((p : Carrying l.file l.initial.r l.n l.s.list) → (m : ℕ) × Loose m (65535 + 3825 * l.i) l.r
+    × Numbered m (drop l.i (take l.n l.s.list)) p.count)
 
 abbrev pub decreases-loop-i : goal.decreases-loop-i
 decreases-loop-i l = l.n - l.i

@@ -34,7 +34,8 @@ start_state-requires c = routine_few c.requires (routine (goal.at.start_state-re
 
 pub loop-i-init : goal.loop-i-init
 loop-i-init c =
-    slots_start c.requires (routine (goal.at.loop-i-init c).After-routine_at-f) c.unvisited-saved.result c.start_state.result c.unvisited-saved.ensures
+    slots_start c.requires (routine (goal.at.loop-i-init c).After-routine_at-f) c.unvisited-saved.result c.start_state.result
+    c.unvisited-saved.ensures
     c.start_state.ensures
 
 pub offset_bounds-saved-i : goal.offset_bounds-saved-i
@@ -51,7 +52,8 @@ step-m-requires c =
 
 pub returns-in-Refused : goal.returns-in-Refused
 returns-in-Refused c =
-    sym (slots_refused c.requires (routine (goal.at.returns-in-Refused c).After-routine_at-f) c.loop-i.invariant c.loop-i-test.true c.step-m.ensures
+    sym (slots_refused c.requires (routine (goal.at.returns-in-Refused c).After-routine_at-f) c.loop-i.invariant c.loop-i-test.true
+    c.step-m.ensures
     c.in-Refused.reason c.in-Refused.is)
 
 pub offset_bounds-saved-near : goal.offset_bounds-saved-near
@@ -59,7 +61,8 @@ offset_bounds-saved-near c =
     omega (
       arith,
       (slots_near c.requires (routine
-          (goal.at.offset_bounds-saved-near c).After-routine_at-f) c.loop-i.invariant c.loop-i-test.true c.step-m.ensures c.in_default.is).0,
+          (goal.at.offset_bounds-saved-near c).After-routine_at-f) c.loop-i.invariant c.loop-i-test.true c.step-m.ensures
+          c.in_default.is).0,
     )
 
 pub bounds-saved-near : goal.bounds-saved-near

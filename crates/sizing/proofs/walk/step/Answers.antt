@@ -115,13 +115,15 @@ overflow_add-i-in-Stop c = omega (arith, short c.requires)
 
 pub returns-in-Load : goal.returns-in-Load
 returns-in-Load c =
-    said_load (as_is (move (goal.at.returns-in-Load c).After-instruction-ins) c.in-Load.is) (c.wide.result - 1) (ap (λ (k : ℕ). k - 1) c.wide.ensures.0)
+    said_load (as_is (move (goal.at.returns-in-Load c).After-instruction-ins) c.in-Load.is) (c.wide.result - 1)
+    (ap (λ (k : ℕ). k - 1) c.wide.ensures.0)
     c.load_variable.result c.unvisited.result c.load_variable.ensures.0
     c.load_variable.ensures.1 c.load_variable.ensures.2 c.unvisited.ensures
 
 pub returns-in-Return : goal.returns-in-Return
 unfolding shape_from
-returns-in-Return c = said_end (as_is (move (goal.at.returns-in-Return c).After-instruction-ins) c.in-Return.is) refl c.stay-in-Return.ensures
+returns-in-Return c = said_end (as_is (move (goal.at.returns-in-Return c).After-instruction-ins) c.in-Return.is) refl
+    c.stay-in-Return.ensures
 
 pub returns-in-Stop : goal.returns-in-Stop
 unfolding shape_from

@@ -7,7 +7,7 @@ pub loop-i-preserved : goal.loop-i-preserved
 loop-i-preserved c =
     let l = c.loop-i in
     let i = l.i in
-    (omega arith, rw l.invariant.1 (one_zero i c.args.frames.now (omega (arith, l.invariant.1))))
+    (omega arith, rw l.invariant.1 (one_zero i c.args.frames.now (omega arith)))
 
 pub returns : goal.returns
 returns c =
