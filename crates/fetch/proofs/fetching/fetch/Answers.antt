@@ -20,20 +20,16 @@ returns-then-at-gt504 c = (
 )
 
 pub bounds-file-at : goal.bounds-file-at
-bounds-file-at c =
-    omega (arith, block_room c.requires.0 c.args.at c.requires.1 c.requires.2 c.if-at-gt504.false)
+bounds-file-at c = omega (arith, block_room c.requires.0 c.args.at c.requires.1 c.requires.2 c.if-at-gt504.false)
 
 pub bounds-file-at-2 : goal.bounds-file-at-2
-bounds-file-at-2 c =
-    omega (arith, block_room c.requires.0 c.args.at c.requires.1 c.requires.2 c.if-at-gt504.false)
+bounds-file-at-2 c = omega (arith, block_room c.requires.0 c.args.at c.requires.1 c.requires.2 c.if-at-gt504.false)
 
 pub bounds-file-at-3 : goal.bounds-file-at-3
-bounds-file-at-3 c =
-    omega (arith, block_room c.requires.0 c.args.at c.requires.1 c.requires.2 c.if-at-gt504.false)
+bounds-file-at-3 c = omega (arith, block_room c.requires.0 c.args.at c.requires.1 c.requires.2 c.if-at-gt504.false)
 
 pub bounds-file-at-4 : goal.bounds-file-at-4
-bounds-file-at-4 c =
-    omega (arith, block_room c.requires.0 c.args.at c.requires.1 c.requires.2 c.if-at-gt504.false)
+bounds-file-at-4 c = omega (arith, block_room c.requires.0 c.args.at c.requires.1 c.requires.2 c.if-at-gt504.false)
 
 pub returns : goal.returns
 returns c = (
