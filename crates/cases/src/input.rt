@@ -1,5 +1,5 @@
 // The lines of standard input, in a buffer that holds the bytes that are not answered yet.
-ghost use Rattle.std.specs.Prelude.{◌≡◌, ◌≤◌, ◌<◌, length};
+ghost use Rattle.std.specs.Prelude.{◌≡◌, false, ◌≤◌, ◌<◌, length};
 ghost use Rattle.cases.specs.Window.{Within};
 
 use crate::commands;
@@ -110,9 +110,7 @@ fn more(rt: &(impl Input + Print + Eprint), buffer: &mut [u8], window: Window) -
 
 // A window at the buffer's front.
 fn at_front(seen: usize, to: usize, cut: bool) -> Window
-    ensures from { result.from ≡ 0 }
-    ensures seen { result.seen ≡ seen }
-    ensures to { result.to ≡ to }
+    ensures { result ≡ record { from = 0; seen = seen; to = to; cut = cut; ended = false } }
 {
     Window {
         from: 0,

@@ -3,7 +3,7 @@ use Prim.Native.Nat.{◌≤◌}
 use native.Mathlib.Omega.{arith}
 use Rattle.program.proofs.CodeLaws.{code_there, code_short, code_here_lem, code_read, base_small}
 use Rattle.flow.proofs.FlowLaws.{flow_start, flow_wrong, flow_next, flow_end, flow_room}
-use Rattle.flow.proofs.flow_of.Goals.{Else-step}
+use Rattle.flow.proofs.flow_of.Goals.{After-flow_step-step}
 use Rattle.flow.proofs.flow_of.Goals as goal
 
 pub loop-k-init : goal.loop-k-init
@@ -37,26 +37,23 @@ returns-then-step c =
     c.instruction-ins.ensures) c.flow_step-step.ensures c.if-step.true
 
 -- both slots that are stored to are those of instructions
-slots : (c : Else-step) → (c.flow_step-step.result.on ≤ 256) × (c.flow_step-step.result.to ≤ 256)
+slots : (c : After-flow_step-step) → (c.flow_step-step.result.on ≤ 256) × (c.flow_step-step.result.to ≤ 256)
 slots c =
     flow_room _ _ _ _ c.loop-k.invariant c.loop-k-test.true
     (code_read c.loop-k.invariant.code c.loop-k.k c.instruction_offset.ensures
     c.instruction-ins.ensures) c.flow_step-step.ensures
 
 pub bounds-waiting-to : goal.bounds-waiting-to
-bounds-waiting-to c =
-    let room = flow_room _ _ _ _ c.loop-k.invariant c.loop-k-test.true
-    (code_read c.loop-k.invariant.code c.loop-k.k c.instruction_offset.ensures c.instruction-ins.ensures) c.flow_step-step.ensures in
-    omega (arith, room)
+bounds-waiting-to c = omega (arith, slots (goal.at.bounds-waiting-to c).After-flow_step-step)
 
 pub bounds-waiting-to-in-loop-k : goal.bounds-waiting-to-in-loop-k
-bounds-waiting-to-in-loop-k c = omega (arith, slots (goal.at.bounds-waiting-to-in-loop-k c).Else-step)
+bounds-waiting-to-in-loop-k c = omega (arith, slots (goal.at.bounds-waiting-to-in-loop-k c).After-flow_step-step)
 
 pub bounds-waiting-on : goal.bounds-waiting-on
-bounds-waiting-on c = omega (arith, slots (goal.at.bounds-waiting-on c).Else-step)
+bounds-waiting-on c = omega (arith, slots (goal.at.bounds-waiting-on c).After-flow_step-step)
 
 pub bounds-waiting-on-in-loop-k : goal.bounds-waiting-on-in-loop-k
-bounds-waiting-on-in-loop-k c = omega (arith, slots (goal.at.bounds-waiting-on-in-loop-k c).Else-step)
+bounds-waiting-on-in-loop-k c = omega (arith, slots (goal.at.bounds-waiting-on-in-loop-k c).After-flow_step-step)
 
 pub overflow_add-k : goal.overflow_add-k
 overflow_add-k c = omega (arith, code_short c.loop-k.invariant.code)

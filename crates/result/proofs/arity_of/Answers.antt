@@ -13,12 +13,12 @@ returns-then-is_constant c =
 
 pub constructor_arity-requires : goal.constructor_arity-requires
 constructor_arity-requires c =
-    let no-constant = sym c.is_constant.ensures ∙ c.if-is_constant.false in
-    rw c.constructor_at.ensures.0 (cell_known _ _ _ c.requires no-constant)
+    let no_constant = sym c.is_constant.ensures ∙ c.if-is_constant.false in
+    rw c.constructor_at.ensures.0 (cell_known _ _ _ c.requires no_constant)
 
 pub returns : goal.returns
 returns c =
     let x = c.args in
     let n = constructor_arity x.file.now.now in
-    let no-constant = sym c.is_constant.ensures ∙ c.if-is_constant.false in
-    c.constructor_arity.ensures ∙ ap n c.constructor_at.ensures.0 ∙ sym (cell_arity x.cells.now x.k n no-constant)
+    let no_constant = sym c.is_constant.ensures ∙ c.if-is_constant.false in
+    c.constructor_arity.ensures ∙ ap n c.constructor_at.ensures.0 ∙ sym (cell_arity x.cells.now x.k n no_constant)

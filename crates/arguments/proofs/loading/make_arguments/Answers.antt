@@ -10,10 +10,10 @@ use Rattle.arguments.proofs.loading.make_arguments.Goals.{then-n-ne0, else-n-ne0
 use Rattle.arguments.proofs.loading.make_arguments.Goals as goal
 
 -- the byte's arguments are among the references, and with the new one they fit
-room-here : (c : After-constructor_arity-n)
+room_here : (c : After-constructor_arity-n)
     → (c.loop-i.at + c.constructor_arity-n.result ≤ 256)
     × (0 < c.loop-i.at + c.constructor_arity-n.result)
-room-here c =
+room_here c =
     let l = c.loop-i in
     byte_room c.requires.loading l.i (omega arith) l.invariant.1 c.wide-c.ensures.0
     c.constructor_arity-n.ensures l.invariant.0
@@ -44,7 +44,7 @@ put_cell-number-requires c =
       room_less _ _ (l.used + 1) kept (omega (arith, fits)),
       omega (arith, fits, a.few),
       byte_few a.loading l.i (omega arith) l.invariant.1 w q,
-      omega (arith, room-here (goal.at.put_cell-number-requires c).After-constructor_arity-n, l.invariant.2),
+      omega (arith, room_here (goal.at.put_cell-number-requires c).After-constructor_arity-n, l.invariant.2),
     )
 
 pub overflow_add-used : goal.overflow_add-used
@@ -59,16 +59,16 @@ overflow_add-used c =
     )
 
 pub overflow_add-at : goal.overflow_add-at
-overflow_add-at c = omega (arith, room-here (goal.at.overflow_add-at c).After-constructor_arity-n)
+overflow_add-at c = omega (arith, room_here (goal.at.overflow_add-at c).After-constructor_arity-n)
 
 pub overflow_sub-at : goal.overflow_sub-at
-overflow_sub-at c = omega (arith, room-here (goal.at.overflow_sub-at c).After-constructor_arity-n)
+overflow_sub-at c = omega (arith, room_here (goal.at.overflow_sub-at c).After-constructor_arity-n)
 
 pub offset_bounds-numbers-at : goal.offset_bounds-numbers-at
-offset_bounds-numbers-at c = omega (arith, room-here (goal.at.offset_bounds-numbers-at c).After-constructor_arity-n)
+offset_bounds-numbers-at c = omega (arith, room_here (goal.at.offset_bounds-numbers-at c).After-constructor_arity-n)
 
 pub bounds-numbers-at : goal.bounds-numbers-at
-bounds-numbers-at c = omega (arith, room-here (goal.at.bounds-numbers-at c).After-constructor_arity-n)
+bounds-numbers-at c = omega (arith, room_here (goal.at.bounds-numbers-at c).After-constructor_arity-n)
 
 pub loop-i-preserved : goal.loop-i-preserved
 loop-i-preserved c =

@@ -13,14 +13,14 @@ use Rattle.sizing.specs.Routines.{MakerIs}
 use Rattle.sizing.proofs.routines.maker_of.Goals.{After-wide-in-Call}
 use Rattle.sizing.proofs.routines.maker_of.Goals as goal
 
-no-maker : (bytes : List ℕ) (ins : Instruction) (m : Maker) → m.makes ≡ false → ((x : ℕ) → ins ≡ Build x → ⊥)
+no_maker : (bytes : List ℕ) (ins : Instruction) (m : Maker) → m.makes ≡ false → ((x : ℕ) → ins ≡ Build x → ⊥)
     → ((x : ℕ) → ins ≡ Call x → ⊥) → MakerIs bytes ins m
-no-maker bytes (Load a) m e k h = e
-no-maker bytes (Build c) m e k h = absurd (k c refl)
-no-maker bytes (Call g) m e k h = absurd (h g refl)
-no-maker bytes (Branch c b) m e k h = e
-no-maker bytes Return m e k h = e
-no-maker bytes Stop m e k h = e
+no_maker bytes (Load a) m e k h = e
+no_maker bytes (Build c) m e k h = absurd (k c refl)
+no_maker bytes (Call g) m e k h = absurd (h g refl)
+no_maker bytes (Branch c b) m e k h = e
+no_maker bytes Return m e k h = e
+no_maker bytes Stop m e k h = e
 
 ---- What is known at a place of the code
 -- the function that is called
@@ -53,4 +53,4 @@ returns-in-Call c =
     rw (c.in-Call.is, ← c.wide-in-Call.ensures.0) (record { makes = refl; arity = r.arity; bound = r.bound })
 
 pub returns-in_default : goal.returns-in_default
-returns-in_default c = no-maker (payload c.args.file.now) c.args.ins _ refl c.in_default.not-Build c.in_default.not-Call
+returns-in_default c = no_maker (payload c.args.file.now) c.args.ins _ refl c.in_default.not-Build c.in_default.not-Call

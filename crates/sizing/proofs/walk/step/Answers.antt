@@ -51,8 +51,8 @@ as_is : {file heads : List ℕ} {g i : ℕ} {st : Saved} {x y : Instruction} →
 as_is m e = rw e at m
 
 -- a build or a call makes an entry
-makes-entry : (ins : Instruction) → ((x : ℕ) × (ins ≡ Build x)) ⊎ ((x : ℕ) × (ins ≡ Call x)) → Makes ins
-makes-entry ins h = ⊎_elim (λ k. rw k.1 tt) (λ k. rw k.1 tt) h
+makes_entry : (ins : Instruction) → ((x : ℕ) × (ins ≡ Build x)) ⊎ ((x : ℕ) × (ins ≡ Call x)) → Makes ins
+makes_entry ins h = ⊎_elim (λ k. rw k.1 tt) (λ k. rw k.1 tt) h
 
 pub overflow_add-i : goal.overflow_add-i
 overflow_add-i c = omega (arith, short c.requires)
@@ -100,7 +100,7 @@ line_move-requires c =
     record {
       ins = c.instruction-ins.result;
       move = move (goal.at.line_move-requires c).After-instruction-ins;
-      makes = makes-entry c.instruction-ins.result c.in-Build.is;
+      makes = makes_entry c.instruction-ins.result c.in-Build.is;
       routine = c.requires.routine;
     }
 
