@@ -2,7 +2,7 @@
 use Prim.Native.Nat.{ℕ, zero, suc, ◌+◌, ◌-◌, ◌≤◌, ◌<◌}
 use mathlib.Core.Path.{◌≡◌, refl, sym, ap, ap₂, ◌∙◌, subst}
 use mathlib.Core.List.{List, [], ◌∷◌, ◌++◌}
-use mathlib.Core.Option.{some}
+use Rattle.std.specs.Prelude.{Some}
 use mathlib.Core.Logic.{⊎_elim}
 use native.Mathlib.Omega.{arith}
 use native.Mathlib.Nat.{add-zero, zero-add, eq-or-lt_of_le}
@@ -80,7 +80,7 @@ module _ {file bytes : List ℕ} (a : Loading file bytes) (i : ℕ) (inside : i 
   next : drop i bytes ≡ c ∷ drop (i + 1) bytes
   next = rw (add-one, drop-cons bytes i 0)
 
-  here : (t : ℕ) × (ps : List ℕ) × (k : Constructor) × (length ps < 256) × (constructor s c ≡ some k)
+  here : (t : ℕ) × (ps : List ℕ) × (k : Constructor) × (length ps < 256) × (constructor s c ≡ Some k)
       × (read_bytes s (suc i) (drop (i + 1) bytes) (k.arguments ++ ps) ≡ passed)
   here =
       let (p, q, h) = suffix s i 0 bytes a.pending a.right a.few (omega arith) in
@@ -157,9 +157,9 @@ module _ {file bytes : List ℕ} (a : Loading file bytes) (i : ℕ) (inside : i 
 
     -- a constant makes no cell
     constant_more : length numbers ≡ 256 → n ≡ 0 → MadeFrom s bytes i used cells cells' (set numbers (at + n - 1) c) (at + n - 1)
-    constant_more long none =
-        let e = allocated_next long c (allocated_constant later.0 c (refs numbers at n) (length_refs numbers at n ∙ none)) in record {
-          taken = omega (arith, x.taken, counted_here, ap one_unless_constant none);
+    constant_more long None =
+        let e = allocated_next long c (allocated_constant later.0 c (refs numbers at n) (length_refs numbers at n ∙ None)) in record {
+          taken = omega (arith, x.taken, counted_here, ap one_unless_constant None);
           heap = x.heap ∙ e.0;
           values = e.1;
           low = omega (arith, argument_room);
@@ -250,7 +250,7 @@ module _ {file bytes : List ℕ} (a : Loading file bytes) (i : ℕ) (pos : 0 < i
     counted_byte = let e : i - 1 + 1 ≡ i = omega arith in rw arity_read (rw e at (counted_here a (i - 1) (omega arith)))
 
     pub counted_constant : n' ≡ 0 → cells_loaded (program_in file) (drop (i - 1) bytes) ≡ cells_loaded (program_in file) (drop i bytes)
-    counted_constant none = omega (arith, counted_byte, ap one_unless_constant none)
+    counted_constant None = omega (arith, counted_byte, ap one_unless_constant None)
 
     pub counted_cell : (n' ≡ 0 → ⊥)
         → cells_loaded (program_in file) (drop (i - 1) bytes) ≡ 1 + cells_loaded (program_in file) (drop i bytes)
@@ -271,8 +271,8 @@ module _ {file bytes : List ℕ} (a : Loading file bytes) (i : ℕ) (pos : 0 < i
 
       pub byte_constant : length numbers ≡ 256 → n' ≡ 0
           → MadeFrom (program_in file) bytes (i - 1) used cells cells' (set numbers (at + n' - 1) c') (at + n' - 1)
-      byte_constant long none =
-          rw (arity_read, ec) (constant_more a (i - 1) (omega arith) before long (sym arity_read ∙ none))
+      byte_constant long None =
+          rw (arity_read, ec) (constant_more a (i - 1) (omega arith) before long (sym arity_read ∙ None))
 
       pub byte_cell : length numbers ≡ 256 → (n' ≡ 0 → ⊥) → {cells'' : List ℕ} → CellPut used c' (refs numbers at n') cells' cells''
           → MadeFrom (program_in file) bytes (i - 1) (used + 1) cells cells'' (set numbers (at + n' - 1) (number_of used)) (at + n' - 1)

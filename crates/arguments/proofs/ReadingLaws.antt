@@ -2,7 +2,7 @@
 use Prim.Native.Nat.{ℕ, ◌+◌, ◌-◌, ◌≤◌, ◌<◌}
 use mathlib.Core.Path.{◌≡◌, sym, ap, ◌∙◌, subst, refl}
 use mathlib.Core.List.{List, [], ◌∷◌, ◌++◌, append_assoc, append-nil}
-use mathlib.Core.Option.{none, some}
+use Rattle.std.specs.Prelude.{None, Some}
 use native.Mathlib.Omega.{arith}
 use native.Mathlib.Numerals.{add-one}
 use lib.ListN.{length, get_or, set, take, drop, length-append, length-drop, length-take, drop_of_length-le}
@@ -65,11 +65,11 @@ module _ (s : Program) (c at : ℕ) (types : List ℕ) (long : length types ≡ 
     next : drop at types ≡ get_or types at 0 ∷ drop (at + 1) types
     next = let h : at < length types = omega arith in rw (add-one, drop-cons types at 0)
 
-    pub read_unknown : constructor s c ≡ none → ReadsByte s c at types types 257
+    pub read_unknown : constructor s c ≡ None → ReadsByte s c at types types 257
     unfolding read_byte
     read_unknown e = record { says = λ o. rw (next, e); inside = omega arith; long = long }
 
-    module _ (k : Constructor) (e : constructor s c ≡ some k) where
+    module _ (k : Constructor) (e : constructor s c ≡ Some k) where
       room : (length (k.arguments ++ drop (at + 1) types) ≡ length k.arguments + (255 - at))
       room = length-append k.arguments (drop (at + 1) types) ∙ omega (arith, length-drop (at + 1) types)
 
@@ -117,7 +117,7 @@ module _ {file : List ℕ} (parsed : Parsed file) where
   header_there = there.header
 
   module _ (c known : ℕ) (ek : known ≡ byte_at (payload file) 2) where
-    pub byte_unknown : known ≤ c → constructor (program_in file) c ≡ none
+    pub byte_unknown : known ≤ c → constructor (program_in file) c ≡ None
     unfolding program_of
     byte_unknown h =
         numbered_past (λ k. constructor_of (constructor_at (payload file) (constructor_offset k))) (byte_at (payload file) 2) 0 c
@@ -133,7 +133,7 @@ module _ {file : List ℕ} (parsed : Parsed file) where
           rw ed (arguments_length (payload file) (constructor_offset c) few, few)
 
       pub declared : constructor (program_in file) c
-          ≡ some (record { result = d.result; arguments = arguments_of d; weight = byte_at (payload file) (constructor_offset c + 6) })
+          ≡ Some (record { result = d.result; arguments = arguments_of d; weight = byte_at (payload file) (constructor_offset c + 6) })
       unfolding constructor_of
       declared = constructor_is (payload file) c (omega arith) ∙ rw ed
 

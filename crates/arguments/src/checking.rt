@@ -2,7 +2,7 @@
 ghost use Rattle.std.specs.Prelude.{◌≡◌, ◌+◌, ◌≤◌, length};
 ghost use Rattle.std.proofs.lemmas.List.Edits.{sets};
 ghost use Rattle.rules.specs.Base.{byte_at};
-ghost use Rattle.rules.specs.Answers.{told_check};
+ghost use Rattle.rules.specs.Answers.{told};
 ghost use Rattle.rules.specs.Container.{payload};
 ghost use Rattle.rules.specs.Records.{arguments_of, function_of, program_in};
 ghost use Rattle.rules.specs.Established.{Parsed};
@@ -67,7 +67,7 @@ fn read_byte(file: &[u8], known: usize, types: &mut [u8; 256], at: usize, c: usi
 pub fn check_arguments(file: &[u8], head: usize, bytes: &[u8]) -> Checked
     requires parsed { Parsed file.now }
     requires head_there { HeadThere (payload file.now) head }
-    ensures { told_check result ≡ arguments_right (program_in file.now) (function_of (payload file.now) head)
+    ensures { told result ≡ arguments_right (program_in file.now) (function_of (payload file.now) head)
         bytes.now }
 {
     if bytes.len() > 65535 {

@@ -5,8 +5,9 @@ use mathlib.Core.Bool.{Bool, ◌&&◌}
 use Prim.Native.Nat.{ℕ, ◌+◌, ◌*◌, ◌-◌, ◌<◌}
 use lib.ListN.{take, drop}
 use lib.Dec.{eqb}
-use Rattle.rules.specs.declared.answers.Checked.{Checked}
-use Rattle.rules.specs.Answers.{told_check}
+use Rattle.std.specs.Prelude.{Result}
+use Rattle.rules.specs.declared.answers.Reason.{Reason}
+use Rattle.rules.specs.Answers.{told}
 use Rattle.rules.specs.Base.{refusal, ◌>>=◌, Check, require, is_zero, all, word_at, long_at}
 use Rattle.rules.specs.Container.{checksum, used_right, block_right, verify_block, verify_blocks}
 use Rattle.rules.proofs.ContainerLaws.{blocks_step}
@@ -24,8 +25,8 @@ unfolding verify_block
 block_tested last k b e₁ e₂ = rw (e₁, e₂)
 
 -- block k of n as it was found, and those behind it
-pub blocks_found : (n k w : ℕ) (s : List ℕ) (r : Checked) → k < n → w ≡ 512
-    → told_check r ≡ verify_block (eqb (k + 1) n) k (take w (drop (512 * k) s))
-    → verify_blocks (n - k) k (drop (512 * k) s) ≡ (told_check r >>= (λ _. verify_blocks (n - (k + 1)) (k + 1) (drop (512 * (k + 1)) s)))
+pub blocks_found : (n k w : ℕ) (s : List ℕ) (r : Result Unit Reason) → k < n → w ≡ 512
+    → told r ≡ verify_block (eqb (k + 1) n) k (take w (drop (512 * k) s))
+    → verify_blocks (n - k) k (drop (512 * k) s) ≡ (told r >>= (λ _. verify_blocks (n - (k + 1)) (k + 1) (drop (512 * (k + 1)) s)))
 blocks_found n k w s r h e e' =
     blocks_step n k s h ∙ ap (λ (t : Check). t >>= (λ _. verify_blocks (n - (k + 1)) (k + 1) (drop (512 * (k + 1)) s))) (rw e at (sym e'))

@@ -5,9 +5,8 @@ use Prim.Native.Nat.{ℕ, ◌+◌, ◌*◌, ◌-◌, ◌/◌}
 use native.Mathlib.Omega.{arith}
 use lib.ListN.{length}
 use Rattle.rules.specs.declared.answers.Reason.{Reason}
-use Rattle.rules.specs.declared.answers.Length.{Length}
-use Rattle.rules.specs.declared.answers.Length.TheVariants as long
-use Rattle.rules.specs.Answers.{refusal_of, told_length, length_of}
+use Rattle.std.specs.Prelude.{Result, Ok, Err}
+use Rattle.rules.specs.Answers.{refusal_of, told, length_of}
 use Rattle.rules.specs.Base.{Refusal, Tried, found, refused, Check, passed, word_at}
 use Rattle.rules.specs.Container.{verify, payload, verified}
 use Rattle.rules.specs.Established.{Measured}
@@ -34,9 +33,9 @@ pub measured_told : {file : List ℕ} {n : ℕ} → Measured file n → found n 
 measured_told {file} o = rw (verified_passed file o.verified.blocks, o.long)
 
 -- from the answer that `verify` ensures
-module _ (file : List ℕ) {r : Length} (told : told_length r ≡ length_of (verified file)) where
-  pub verified_measured : {n : ℕ} → r ≡ long.Bytes n → Measured file n
-  verified_measured {n} e = go (verify file) refl (rw e at told)
+module _ (file : List ℕ) {r : Result ℕ Reason} (says : told r ≡ length_of (verified file)) where
+  pub verified_measured : {n : ℕ} → r ≡ Ok n → Measured file n
+  verified_measured {n} e = go (verify file) refl (rw e at says)
     where
       go : (t : Check) → verify file ≡ t → found n ≡ length_of (verified file) → Measured file n
       go (found u) v l =
@@ -45,8 +44,8 @@ module _ (file : List ℕ) {r : Length} (told : told_length r ≡ length_of (ver
           record { verified = record { blocks = v; small = h.2 }; long = same }
       go (refused q) v l = absurd (refused_found (sym (rw (verified_stopped file v) at l)))
 
-  pub verified_refused : {reason : Reason} → r ≡ long.Refused reason → verified file ≡ refused (refusal_of reason)
-  verified_refused {reason} e = go (verified file) (rw e at told)
+  pub verified_refused : {reason : Reason} → r ≡ Err reason → verified file ≡ refused (refusal_of reason)
+  verified_refused {reason} e = go (verified file) (rw e at says)
     where
       go : (t : Tried (List ℕ)) → refused (refusal_of reason) ≡ length_of t → t ≡ refused (refusal_of reason)
       go (found bytes) l = absurd (refused_found l)

@@ -1,23 +1,21 @@
 // Verifying blocks: the checksum and the fields of one block, all blocks, the length of their payload.
 ghost use Rattle.std.specs.Prelude.{◌≡◌, ◌≤◌, length, take, drop};
-ghost use Rattle.rules.specs.Answers.{told_check};
+ghost use Rattle.rules.specs.Answers.{told};
 ghost use Rattle.rules.specs.Base.{passed, all, is_zero};
 ghost use Rattle.rules.specs.Container.{checksum, used_right, block_right, verify_block, verify};
 ghost use Rattle.rules.specs.Established.{Measured};
 
 use super::reading::{long_at, word_at};
-use rules::answers::{Checked, Reason};
+use rules::answers::Reason;
 
 // The checksum of a block, as it is computed.
 fn checksum(b: &[u8]) -> u32
     requires { 508 ≤ length b.now }
     ensures { result ≡ checksum b.now }
 {
-    let mut sum: u32 = 0;
-    let mut i: usize = 0;
-    while i < 508 {
-        sum += (b[i] as u32) * (i as u32 + 1);
-        i += 1;
+    let mut sum = 0;
+    for i in 0..508 {
+        sum += u32::from(b[i]) * (i as u32 + 1);
     }
     sum
 }
@@ -37,14 +35,7 @@ fn zero_between(b: &[u8], from: usize, to: usize) -> bool
     requires { (from ≤ to) × (to ≤ length b.now) }
     ensures { result ≡ all is_zero (drop from (take to b.now)) }
 {
-    let mut i = from;
-    while i < to {
-        if b[i] != 0 {
-            return false;
-        }
-        i += 1;
-    }
-    true
+    b[from..to].iter().all(|x| *x == 0)
 }
 
 // Whether block k has its number, a right used count, and zeros behind what is used.
@@ -64,46 +55,33 @@ fn block_right(b: &[u8], last: bool, k: usize) -> bool
 }
 
 // One block, numbered k.
-fn verify_block(b: &[u8], last: bool, k: usize) -> Checked
+fn verify_block(b: &[u8], last: bool, k: usize) -> Result<(), Reason>
     requires { length b.now ≡ 512 }
-    ensures { told_check result ≡ verify_block last k b.now }
+    ensures { told result ≡ verify_block last k b.now }
 {
     if long_at(b, 508) != checksum(b) {
-        return Checked::Refused(Reason::BadChecksum { block: k });
+        return Err(Reason::BadChecksum { block: k });
     }
-    if block_right(b, last, k) {
-        return Checked::Right;
+    if !block_right(b, last, k) {
+        return Err(Reason::BadBlock { block: k });
     }
-    Checked::Refused(Reason::BadBlock { block: k })
+    Ok(())
 }
 
 // All blocks, one after the other.
-pub fn verify_blocks(file: &[u8]) -> Checked
-    ensures { told_check result ≡ verify file.now }
+pub fn verify_blocks(file: &[u8]) -> Result<(), Reason>
+    ensures { told result ≡ verify file.now }
 {
     let len = file.len();
-    if len == 0 {
-        return Checked::Refused(Reason::BadLength);
-    }
-    if 32768 < len {
-        return Checked::Refused(Reason::BadLength);
-    }
-    if len % 512 != 0 {
-        return Checked::Refused(Reason::BadLength);
+    if len == 0 || 32768 < len || len % 512 != 0 {
+        return Err(Reason::BadLength);
     }
     let n = len / 512;
-    let mut k: usize = 0;
-    while k < n {
+    for k in 0..n {
         let at = 512 * k;
-        let end = at + 512;
-        let checked = verify_block(&file[at..end], k + 1 == n, k);
-        match checked {
-            Checked::Right => {}
-            Checked::Refused(reason) => return Checked::Refused(reason),
-        }
-        k += 1;
+        verify_block(&file[at..at + 512], k + 1 == n, k)?;
     }
-    Checked::Right
+    Ok(())
 }
 
 // The length of the payload of verified blocks: every block but the last is full.

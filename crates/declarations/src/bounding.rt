@@ -1,6 +1,6 @@
 // 6: whether each argument of each function has a coefficient of 1 or more in some alternative of the size bound.
 ghost use Rattle.std.specs.Prelude.{◌≡◌, false, ◌||◌, ℕ, ◌≤◌, ◌<◌, length, get_or, ltb};
-ghost use Rattle.rules.specs.Answers.{told_check};
+ghost use Rattle.rules.specs.Answers.{told};
 ghost use Rattle.rules.specs.Container.{payload};
 ghost use Rattle.rules.specs.Declarations.{bound_rule, bounds_right};
 ghost use Rattle.rules.specs.Established.{Verified, LaidOut};
@@ -45,7 +45,7 @@ fn bounded_arguments(file: &[u8], at: usize, count: u8) -> [bool; 4]
 // 6 of function g, whose head stands at an offset.
 fn function_bounded(file: &[u8], g: usize, at: usize) -> Checked
     requires { Verified file.now × FunctionThere (payload file.now) at }
-    ensures { told_check result ≡ bound_rule g (function_of (payload file.now) at) }
+    ensures { told result ≡ bound_rule g (function_of (payload file.now) at) }
 {
     let h = head(file, at);
     let d = h.declaration;
@@ -67,7 +67,7 @@ fn function_bounded(file: &[u8], g: usize, at: usize) -> Checked
 // For the crates above: 6 over a program whose records are right.
 pub fn bounded(file: &[u8], l: Layout) -> Checked
     requires { LaidOut file.now l.header l.heads }
-    ensures { told_check result ≡ bounds_right (program_in file.now) }
+    ensures { told result ≡ bounds_right (program_in file.now) }
 {
     let h = l.header;
     let heads = l.heads;

@@ -1,6 +1,6 @@
 // 5: whether the types of each constructor and function are below T, and each weight is right.
 ghost use Rattle.std.specs.Prelude.{◌≡◌, ◌&&◌, ◌∷◌, ◌≤◌};
-ghost use Rattle.rules.specs.Answers.{told_check};
+ghost use Rattle.rules.specs.Answers.{told};
 ghost use Rattle.rules.specs.Base.{each};
 ghost use Rattle.rules.specs.Declarations.{all_below, weight_right, constructor_rule, signature_rule, declarations_right};
 ghost use Rattle.rules.specs.Established.{Headed, LaidOut};
@@ -50,7 +50,7 @@ fn constructor_declared(types: u8, c: ConstructorRecord) -> bool
 
 fn constructors_declared(file: &[u8], h: Header) -> Checked
     requires { Headed file.now h }
-    ensures { told_check result ≡ each (constructor_rule (program_in file.now).types) 0
+    ensures { told result ≡ each (constructor_rule (program_in file.now).types) 0
         (program_in file.now).constructors }
 {
     let m = h.constructors as usize;
@@ -67,7 +67,7 @@ fn constructors_declared(file: &[u8], h: Header) -> Checked
 
 fn functions_declared(file: &[u8], l: Layout) -> Checked
     requires { LaidOut file.now l.header l.heads }
-    ensures { told_check result ≡ each (signature_rule (program_in file.now).types) 0
+    ensures { told result ≡ each (signature_rule (program_in file.now).types) 0
         (program_in file.now).functions }
 {
     let h = l.header;
@@ -87,7 +87,7 @@ fn functions_declared(file: &[u8], l: Layout) -> Checked
 // For the crates above: 5 over a program whose records are right.
 pub fn declared(file: &[u8], l: Layout) -> Checked
     requires { LaidOut file.now l.header l.heads }
-    ensures { told_check result ≡ declarations_right (program_in file.now) }
+    ensures { told result ≡ declarations_right (program_in file.now) }
 {
     let constructors = constructors_declared(file, l.header);
     if let Checked::Refused(reason) = constructors {

@@ -2,7 +2,7 @@
 use Prim.Native.Nat.{ℕ, zero, suc, ◌+◌, ◌-◌, ◌≤◌, ◌<◌}
 use mathlib.Core.Path.{◌≡◌, refl, sym, ap, ◌∙◌, subst}
 use mathlib.Core.List.{List}
-use mathlib.Core.Option.{Option, none, some}
+use Rattle.std.specs.Prelude.{Option, None, Some}
 use mathlib.Core.Bool.{Bool, ◌&&◌}
 use native.Mathlib.Omega.{arith}
 use native.Mathlib.Nat.{zero-add}
@@ -42,12 +42,12 @@ module _ (bytes : List ℕ) where
   function_count = numbered_length _ (byte_at bytes 3) 0
 
   pub constructor_is : (c : ℕ) → c < byte_at bytes 2
-      → constructor (program_of bytes) c ≡ some (constructor_of (constructor_at bytes (constructor_offset c)))
+      → constructor (program_of bytes) c ≡ Some (constructor_of (constructor_at bytes (constructor_offset c)))
   unfolding program_of
   constructor_is c h = rw zero-add at (numbered_at (λ k. constructor_of (constructor_at bytes (constructor_offset k))) (byte_at bytes 2) 0
       c h)
 
-  pub function_is : (f : ℕ) → f < byte_at bytes 3 → function (program_of bytes) f ≡ some (function_of bytes (head_offset bytes f))
+  pub function_is : (f : ℕ) → f < byte_at bytes 3 → function (program_of bytes) f ≡ Some (function_of bytes (head_offset bytes f))
   unfolding program_of
   function_is f h = rw zero-add at (numbered_at (λ g. function_of bytes (head_offset bytes g)) (byte_at bytes 3) 0 f h)
 
@@ -89,15 +89,15 @@ module _ (bytes : List ℕ) where
       pub last : i - 1 < word_at bytes (head_offset bytes f + 8)
       pub is : ins ≡ instruction_of (instruction_at bytes (instruction_offset (code_offset bytes (head_offset bytes f)) (i - 1)))
 
-    pub placed : (f i : ℕ) (ins : Instruction) → current (program_of bytes) (place f i) ≡ some ins → CodePlaced f i ins
+    pub placed : (f i : ℕ) (ins : Instruction) → current (program_of bytes) (place f i) ≡ Some ins → CodePlaced f i ins
     unfolding current function_of
     placed f i ins e =
         let a = bind_some (function (program_of bytes) f) _ e in
         let h : f < byte_at bytes 3 = omega (arith, at_less (program_of bytes).functions f a.1, function_count) in
         let same : a.0 ≡ function_of bytes (head_offset bytes f) = some_inj (sym a.1 ∙ function_is f h) in
-        go i h (subst (λ (k : Function). slot i k.code ≡ some ins) same a.2)
+        go i h (subst (λ (k : Function). slot i k.code ≡ Some ins) same a.2)
       where
-        go : (j : ℕ) → f < byte_at bytes 3 → slot j (function_of bytes (head_offset bytes f)).code ≡ some ins → CodePlaced f j ins
+        go : (j : ℕ) → f < byte_at bytes 3 → slot j (function_of bytes (head_offset bytes f)).code ≡ Some ins → CodePlaced f j ins
         go zero h q = none_some q
         go (suc j) h q =
             let head = head_offset bytes f in
@@ -132,8 +132,8 @@ module _ {file : List ℕ} (parsed : Parsed file) where
   }
     where
       go : (c : ℕ) (o : Option Constructor) → constructor (program_in file) c ≡ o → arity (program_in file) c ≤ 4
-      go c none e = rw e (omega arith)
-      go c (some k) e =
+      go c None e = rw e (omega arith)
+      go c (Some k) e =
           let n = constructor_count (payload file) in
           let h : c < byte_at (payload file) 2 = omega (arith, at_less (program_in file).constructors c e) in
           let a = held_arity (payload file) there c h in

@@ -3,7 +3,7 @@ use Rattle.std.specs.Prelude.{if◌then◌else◌}
 use Prim.Native.Nat.{ℕ, ◌+◌, ◌-◌, ◌/◌, ◌%◌, ◌≤◌, ◌<◌}
 use mathlib.Core.Path.{◌≡◌, refl, sym, ap, ◌∙◌}
 use mathlib.Core.List.{List}
-use mathlib.Core.Option.{none, some}
+use Rattle.std.specs.Prelude.{None, Some}
 use mathlib.Core.Bool.{Bool, true, false, ◌&&◌}
 use native.Mathlib.Omega.{arith}
 use lib.ListN.{length}
@@ -28,7 +28,7 @@ use Rattle.fetch.proofs.IndexLaws.{placed, function_count}
 ---- Where it stands
 
 pub instruction_there : {file : List ℕ} → Parsed file → (f i at : ℕ) (ins : Instruction) → StandsAt file f i at
-    → current (program_in file) (place f i) ≡ some ins
+    → current (program_in file) (place f i) ≡ Some ins
     → (offset_at at + 4 ≤ length (payload file)) × (f < length (program_in file).functions) × (i ≤ 256)
     × (is_some (operation (instruction_at (payload file) (offset_at at))) ≡ true)
     × (ins ≡ instruction_of (instruction_at (payload file) (offset_at at)))
@@ -86,7 +86,7 @@ module _ (o a b : ℕ) (right : is_some (operation (rec o a b)) ≡ true) where
   says_stop n₁ n₂ n₃ n₄ n₅ =
       simp (ne_eqb o 1 n₁, ne_eqb o 2 n₂, ne_eqb o 3 n₃, ne_eqb o 4 n₄, ne_eqb o 5 n₅) (go (eqb o 6 && is_zero a && is_zero b))
     where
-      go : (t : Bool) → Stop ≡ or_else (if t then some Stop else none) Stop
+      go : (t : Bool) → Stop ≡ or_else (if t then Some Stop else None) Stop
       go true = refl
       go false = refl
 

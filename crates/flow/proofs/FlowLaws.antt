@@ -2,7 +2,7 @@
 use Rattle.std.specs.Prelude.{if◌then◌else◌}
 use mathlib.Core.Path.{◌≡◌, refl, sym, ap, ◌∙◌, subst}
 use mathlib.Core.List.{List, [], ◌∷◌, ◌++◌}
-use mathlib.Core.Option.{Option, none, some}
+use Rattle.std.specs.Prelude.{Option, None, Some}
 use mathlib.Core.Bool.{Bool, true, false, ◌&&◌, ◌||◌, and-false}
 use Prim.Native.Nat.{ℕ, zero, suc, ◌+◌, ◌-◌, ◌≤◌, ◌<◌}
 use native.Mathlib.Omega.{arith}
@@ -39,21 +39,21 @@ waits_wrong clear h = absurd (h (omega arith) (omega arith))
 waits_wrong behind h = absurd (h (omega arith) (omega arith))
 waits_wrong (several {n} l) h = ne_eqb n 1 (λ e. omega arith)
 
-waits_one : {a n : ℕ} {o : Option Bool} → Waits a n o → (a ≡ 0 → ⊥) → a ≤ 2 → (n ≡ 1) × (o ≡ some (eqb a 2))
+waits_one : {a n : ℕ} {o : Option Bool} → Waits a n o → (a ≡ 0 → ⊥) → a ≤ 2 → (n ≡ 1) × (o ≡ Some (eqb a 2))
 waits_one nowhere h l = absurd (h refl)
 waits_one clear h l = (refl, refl)
 waits_one behind h l = (refl, refl)
 waits_one (several m) h l = absurd (omega arith)
 
 -- where one has arrived, there is its state
-waits_state : {a n : ℕ} {o : Option Bool} → Waits a n o → eqb n 1 ≡ true → o ≡ some (or_else o false)
+waits_state : {a n : ℕ} {o : Option Bool} → Waits a n o → eqb n 1 ≡ true → o ≡ Some (or_else o false)
 waits_state nowhere e = absurd (false_true e)
 waits_state clear e = refl
 waits_state behind e = refl
 waits_state (several {n} l) e = absurd (omega (arith, eqb-true n 1 e))
 
 -- one path more
-waits_more : (past : Bool) {a n : ℕ} {o o' : Option Bool} → Waits a n o → (1 ≤ n → o' ≡ o) → (n ≡ 0 → o' ≡ some past)
+waits_more : (past : Bool) {a n : ℕ} {o o' : Option Bool} → Waits a n o → (1 ≤ n → o' ≡ o) → (n ≡ 0 → o' ≡ Some past)
     → Waits (join_of a past) (n + 1) o'
 unfolding join_of
 waits_more true nowhere later new = rw (new refl) behind
@@ -64,7 +64,7 @@ waits_more past (several {n} l) later new = several {n = n + 1} (omega arith)
 
 -- a store of one path more
 waits_stored : (w : List ℕ) (t j : ℕ) (past : Bool) {x n : ℕ} {o o' : Option Bool} → Waits (get_or w j 0) n o → t < length w
-    → x ≡ join_of (get_or w t 0) past → (b : Bool) → eqb t j ≡ b → (1 ≤ n → o' ≡ o) → (b ≡ true → n ≡ 0 → o' ≡ some past)
+    → x ≡ join_of (get_or w t 0) past → (b : Bool) → eqb t j ≡ b → (1 ≤ n → o' ≡ o) → (b ≡ true → n ≡ 0 → o' ≡ Some past)
     → (b ≡ false → o' ≡ o) → Waits (get_or (set w t x) j 0) (n + (if b then 1 else 0)) o'
 waits_stored w t j past {x} s h e true q later new same =
     let z : t ≡ j = eqb-true t j q in
@@ -75,7 +75,7 @@ waits_stored w t j past {x} {n} s h e false q later new same =
 -- and of two
 waits_twice : (w : List ℕ) (on to j : ℕ) (past : Bool) {x y n : ℕ} {o o' : Option Bool} → Waits (get_or w j 0) n o → on < length w
     → to < length w → x ≡ join_of (get_or w to 0) past → y ≡ join_of (get_or (set w to x) on 0) past → (a : Bool) → eqb on j ≡ a
-    → (b : Bool) → eqb to j ≡ b → (1 ≤ n → o' ≡ o) → ((b || a) ≡ true → n ≡ 0 → o' ≡ some past) → ((b || a) ≡ false → o' ≡ o)
+    → (b : Bool) → eqb to j ≡ b → (1 ≤ n → o' ≡ o) → ((b || a) ≡ true → n ≡ 0 → o' ≡ Some past) → ((b || a) ≡ false → o' ≡ o)
     → Waits (get_or (set (set w to x) on y) j 0) ((n + (if b then 1 else 0)) + (if a then 1 else 0)) o'
 waits_twice w on to j past {x} {o'} s h h' e e' a q true q' later new same =
     waits_stored (set w to x) on j past
@@ -251,7 +251,7 @@ module _ (bytes : List ℕ) (at g : ℕ) (c : Code) where
   }
     where
       go : (j : ℕ) → j < 257 → (b : Bool) → eqb 1 j ≡ b
-          → Waits (get_or (set (replicate 257 0) 1 1) j 0) ((if b then 1 else 0) + 0) (if b then some false else none)
+          → Waits (get_or (set (replicate 257 0) 1 1) j 0) ((if b then 1 else 0) + 0) (if b then Some false else None)
       go j h true e = let q : 1 ≡ j = eqb-true 1 j e in rw (← q) clear
       go j h false e =
           rw (get_or-set_other {A = ℕ} (replicate 257 0) 1 j 1 0 (λ q. eqb-false 1 j e (sym q)), get_or-replicate {A = ℕ} 257 j 0 0 h)
@@ -306,10 +306,10 @@ module _ (bytes : List ℕ) (at g : ℕ) (c : Code) where
       leaves : passing (suc k) it (or_else state false) ≡ found arrows
       leaves = step.says yes
 
-      known : state ≡ some (or_else state false)
+      known : state ≡ Some (or_else state false)
       known = waits_state here (counted_here code_here k ∙ and_left (arrives_right code_here (suc k)) _ yes)
 
-      stands : slot (suc k) code_here ≡ some it
+      stands : slot (suc k) code_here ≡ Some it
       stands = code_slot s.code k h
 
       module _ (j : ℕ) (lo : suc k < j) where
@@ -332,7 +332,7 @@ module _ (bytes : List ℕ) (at g : ℕ) (c : Code) where
                 not-suc-le-zero (rw m at n)
 
         new : {more : List Bool} → arriving j arrows ≡ r.past ∷ more → before ≡ 0
-            → far (suc k) j ≡ some r.past
+            → far (suc k) j ≡ Some r.past
         new m z =
             (so_far_new passing false code_here k j (origin_next code_here k j stands lo z (rw (named, m) (omega arith)))).1
             ∙ rw (stands, known, leaves) (ap first m)

@@ -1,6 +1,6 @@
 -- What the flow pass keeps of the paths that arrive at an instruction, and what its answers say.
 use Rattle.std.specs.Prelude.{if◌then◌else◌, ◌≡◌, List, ◌++◌, Bool, true, false, not, ℕ, ◌≤◌, eqb}
-use Rattle.std.proofs.Math.Option.{Option, some}
+use Rattle.std.specs.Prelude.{Option, Some}
 use Rattle.rules.specs.Base.{Tried, found}
 use Rattle.rules.specs.Walk.{Arrow, arrow_to}
 use Rattle.flow.specs.declared.FlowStep.{FlowStep}
@@ -9,8 +9,8 @@ use Rattle.flow.specs.declared.FlowStep.{FlowStep}
 -- 2 one past a build or call, 3 several
 pub data Waits : ℕ → ℕ → Option Bool → Type 0 where
   nowhere : {o : Option Bool} → Waits 0 0 o
-  clear : Waits 1 1 (some false)
-  behind : Waits 2 1 (some true)
+  clear : Waits 1 1 (Some false)
+  behind : Waits 2 1 (Some true)
   several : {n : ℕ} {o : Option Bool} → 2 ≤ n → Waits 3 n o
 
 -- one path more

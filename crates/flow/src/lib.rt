@@ -2,8 +2,8 @@
 #![tactic(auto)]
 
 ghost use Rattle.std.specs.Prelude.{◌≡◌, [], ◌∷◌, Bool, false, ◌&&◌, ℕ, suc, ◌≤◌, ltb, eqb};
-ghost use Rattle.std.proofs.Math.Option.{Option};
-ghost use Rattle.rules.specs.Answers.{told_check};
+ghost use Rattle.std.specs.Prelude.{Option};
+ghost use Rattle.rules.specs.Answers.{told};
 ghost use Rattle.rules.specs.Base.{found};
 ghost use Rattle.rules.specs.Container.{payload};
 ghost use Rattle.rules.specs.Flow.{passing, leaves_right, flow_of, flow_right};
@@ -115,7 +115,7 @@ fn flow_step(i: usize, last: usize, ins: Instruction, arrived: u8) -> FlowStep
 // The flow of function g, whose head stands at an offset: a slot for each instruction has what arrives there, and slot 0 what goes nowhere.
 fn flow_of(file: &[u8], g: usize, at: usize) -> Checked
     requires { Verified file.now × FunctionThere (payload file.now) at }
-    ensures { told_check result ≡ flow_of g (function_of (payload file.now) at) }
+    ensures { told result ≡ flow_of g (function_of (payload file.now) at) }
 {
     let code = program::code_at(file, at);
     let last = code.last;
@@ -144,7 +144,7 @@ fn flow_of(file: &[u8], g: usize, at: usize) -> Checked
 // For the crates above: number 7 over all functions.
 pub fn flows(file: &[u8], header: Header, heads: &[usize; 32]) -> Checked
     requires { LaidOut file.now header heads.now }
-    ensures { told_check result ≡ flow_right (program_in file.now) }
+    ensures { told result ≡ flow_right (program_in file.now) }
 {
     let m = header.functions as usize;
     let mut g: usize = 0;

@@ -1,7 +1,7 @@
 -- A run that has begun, from its start to what it says and leaves, and what soundness says of the start.
 use mathlib.Core.Path.{◌≡◌, sym, ap, ◌∙◌}
 use mathlib.Core.List.{List, [], ◌∷◌}
-use mathlib.Core.Option.{none, some}
+use Rattle.std.specs.Prelude.{None, Some}
 use mathlib.Core.Bool.{true}
 use Prim.Native.Nat.{ℕ, ◌*◌, ◌≤◌}
 use lib.ListN.{length}
@@ -64,7 +64,7 @@ module _ (file : List ℕ) (entry : ℕ) (arguments : List ℕ) (budget : ℕ) (
 ---- What soundness says of the start
 
 module _ (file : List ℕ) (s : Program) (small : Bytes file) (e : checked file ≡ found s) (entry : ℕ) (f : Function)
-    (known : function s entry ≡ some f) (bytes : List ℕ) (right : arguments_right s f bytes ≡ passed) where
+    (known : function s entry ≡ Some f) (bytes : List ℕ) (right : arguments_right s f bytes ≡ passed) where
   pub start_sound : SoundFrom s (start entry (values s bytes))
   unfolding end_of
   start_sound = record {
@@ -74,11 +74,11 @@ module _ (file : List ℕ) (s : Program) (small : Bytes file) (e : checked file 
     bounded = λ n reached v r w. result_fact file s small e entry f known bytes right n reached v r w;
   }
     where
-      ended : (st : State) (v : Value) → result_of s st ≡ some v → end_of s st ≡ none → ⊥
+      ended : (st : State) (v : Value) → result_of s st ≡ Some v → end_of s st ≡ None → ⊥
       ended [] v w o = none_some (sym o)
       ended (fr ∷ frs) v w o = none_some (sym o ∙ ap finished_with w)
 
-      one : (st : State) → Lives s st → end_of s st ≡ none → (next : State) × (step s st ≡ some next)
+      one : (st : State) → Lives s st → end_of s st ≡ None → (next : State) × (step s st ≡ Some next)
       one st (given_up w) o = absurd (none_some (sym o ∙ ap (end_of s) w))
       one st (has_result v w) o = absurd (ended st v w o)
       one st (goes_on_lem next w) o = (next, w)

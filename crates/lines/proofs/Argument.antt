@@ -2,7 +2,7 @@
 use Rattle.std.specs.Prelude.{if◌then◌else◌}
 use mathlib.Core.Path.{◌≡◌, refl, subst, ◌∙◌}
 use mathlib.Core.List.{List, [], ◌∷◌, ◌++◌}
-use mathlib.Core.Option.{none, some}
+use Rattle.std.specs.Prelude.{None, Some}
 use mathlib.Core.Bool.{Bool, true, false, not, ◌&&◌}
 use Prim.Native.Nat.{ℕ, suc, ◌+◌, ◌≤◌, ◌<◌}
 use native.Mathlib.Omega.{arith}
@@ -26,26 +26,26 @@ use Rattle.lines.proofs.WrittenLaws.{list_length}
 ---- Codes from the table
 
 -- what holds of every entry's constructor holds of what is looked up
-looked_up : (P : ℕ → Type 0) (es : List (List ℕ)) (line : List ℕ) {c : ℕ} → All (λ e. P (byte_at e 3)) es → lookup es line ≡ some c → P c
+looked_up : (P : ℕ → Type 0) (es : List (List ℕ)) (line : List ℕ) {c : ℕ} → All (λ e. P (byte_at e 3)) es → lookup es line ≡ Some c → P c
 unfolding lookup
 looked_up P [] line l[] e = none_some e
 looked_up P (x ∷ es) line {c} (p l∷ ps) e = one (same_letters x line) e (looked_up P es line ps)
   where
-    one : (t : Bool) → (if t then some (byte_at x 3) else lookup es line) ≡ some c → (lookup es line ≡ some c → P c) → P c
+    one : (t : Bool) → (if t then Some (byte_at x 3) else lookup es line) ≡ Some c → (lookup es line ≡ Some c → P c) → P c
     one true q more = rw (some_inj q) at p
     one false q more = more q
 
 -- a line with a code is looked up
-code_looked : (es : List (List ℕ)) (line : List ℕ) {c : ℕ} → code es line ≡ some c → lookup es line ≡ some c
+code_looked : (es : List (List ℕ)) (line : List ℕ) {c : ℕ} → code es line ≡ Some c → lookup es line ≡ Some c
 unfolding code
 code_looked es line {c} e = one (line_right line) e
   where
-    one : (t : Bool) → (if t then lookup es line else none) ≡ some c → lookup es line ≡ some c
+    one : (t : Bool) → (if t then lookup es line else None) ≡ Some c → lookup es line ≡ Some c
     one true q = q
     one false q = none_some q
 
 codes_looked : (es : List (List ℕ)) (n : ℕ) (lines : List (List ℕ)) (cs : List ℕ) → codes es n lines ≡ found cs
-    → All2 (λ line c. lookup es line ≡ some c) lines cs
+    → All2 (λ line c. lookup es line ≡ Some c) lines cs
 unfolding codes
 codes_looked es n [] cs e = rw (← found_inj e) a[]
 codes_looked es n (line ∷ more) cs e =
@@ -54,7 +54,7 @@ codes_looked es n (line ∷ more) cs e =
     rw (← found_inj r.2) (code_looked es line k.1 a∷ codes_looked es (suc n) more r.0 r.1)
 
 looked_all : (P : ℕ → Type 0) (es : List (List ℕ)) {lines : List (List ℕ)} {cs : List ℕ} → All (λ e. P (byte_at e 3)) es
-    → All2 (λ line c. lookup es line ≡ some c) lines cs → All P cs
+    → All2 (λ line c. lookup es line ≡ Some c) lines cs → All P cs
 looked_all P es ps a[] = l[]
 looked_all P es ps (◌a∷◌ {x} q qs) = looked_up P es x ps q l∷ looked_all P es ps qs
 

@@ -2,7 +2,7 @@
 use Rattle.std.specs.Prelude.{if◌then◌else◌}
 use mathlib.Core.Path.{◌≡◌, refl, sym, ap, ◌∙◌}
 use mathlib.Core.List.{List, [], ◌∷◌, ◌++◌, append-nil}
-use mathlib.Core.Option.{Option, none, some}
+use Rattle.std.specs.Prelude.{Option, None, Some}
 use mathlib.Core.Bool.{Bool, true, false, ◌&&◌}
 use mathlib.Core.Logic.{◌⊎◌, inl, inr, ⊎_elim, ◌↔◌}
 use Prim.Native.Nat.{ℕ, zero, suc, ◌+◌, ◌*◌, ◌%◌, ◌≤◌, ◌<◌}
@@ -84,13 +84,13 @@ same_iff e l = (is, λ q. letters_same (bytes_of e) (line_of l) (rw q (record { 
     is h = let s = same_letters_lem (bytes_of e) (line_of l) h in λ i. record { first = s.first i; second = s.second i; third = s.third i }
 
 -- letters mean a constructor just where they are found with it
-means_found : {es : List Entry} {l : Letters} {c : ℕ} → Means es l c → lookup (entries (table_of es)) (line_of l) ≡ some c
+means_found : {es : List Entry} {l : Letters} {c : ℕ} → Means es l c → lookup (entries (table_of es)) (line_of l) ≡ Some c
 unfolding lookup
 means_found (here {e} {es}) = rw (entries_more e es, (same_iff e e.letters).1 refl)
 means_found (later {e} {es} {l} ne m) =
     rw (entries_more e es, is_false (same_letters (bytes_of e) (line_of l)) (λ w. ne ((same_iff e l).0 w))) (means_found m)
 
-found_means : (es : List Entry) (l : Letters) {c : ℕ} → lookup (entries (table_of es)) (line_of l) ≡ some c → Means es l c
+found_means : (es : List Entry) (l : Letters) {c : ℕ} → lookup (entries (table_of es)) (line_of l) ≡ Some c → Means es l c
 unfolding lookup
 found_means [] l e = none_some (rw (no_entries [] (omega arith)) at e)
 found_means (x ∷ es) l {c} e = one (same_letters (bytes_of x) (line_of l)) refl (rw (entries_more x es) at e) (found_means es l)
@@ -98,8 +98,8 @@ found_means (x ∷ es) l {c} e = one (same_letters (bytes_of x) (line_of l)) ref
     others : Option ℕ
     others = lookup (entries (table_of es)) (line_of l)
 
-    one : (t : Bool) → same_letters (bytes_of x) (line_of l) ≡ t → (if t then some x.constructor else others) ≡ some c
-        → (others ≡ some c → Means es l c) → Means (x ∷ es) l c
+    one : (t : Bool) → same_letters (bytes_of x) (line_of l) ≡ t → (if t then Some x.constructor else others) ≡ Some c
+        → (others ≡ Some c → Means es l c) → Means (x ∷ es) l c
     one true w q ih = rw (← (same_iff x l).0 w, ← some_inj q) here
     one false w q ih = later (λ s. false_true (sym w ∙ (same_iff x l).1 s)) (ih q)
 
@@ -120,7 +120,7 @@ module _ (es : List Entry) (capitals : All (λ e. Capitals e.letters) es) where
   table = entries (table_of es)
 
   -- what letters mean is the code of their line
-  means_code : {l : Letters} {c : ℕ} → Means es l c → code table (line_of l) ≡ some c
+  means_code : {l : Letters} {c : ℕ} → Means es l c → code table (line_of l) ≡ Some c
   means_code {l} m =
       let right = (letters_iff l.first l.second l.third).1 (means_capitals capitals m) in
       code_is table (line_of l) (record { four = refl; letters = right; end = refl }) ∙ means_found m
@@ -132,10 +132,10 @@ module _ (es : List Entry) (capitals : All (λ e. Capitals e.letters) es) where
     is : text ≡ line_of letters ++ more
     means : Means es letters c
 
-  code_means : (text : List ℕ) {c : ℕ} → code table (take 4 text) ≡ some c → Front text c
+  code_means : (text : List ℕ) {c : ℕ} → code table (take 4 text) ≡ Some c → Front text c
   code_means text {c} e = front text (coded_line table (take 4 text) e) e
     where
-      front : (text : List ℕ) → Line (take 4 text) → code table (take 4 text) ≡ some c → Front text c
+      front : (text : List ℕ) → Line (take 4 text) → code table (take 4 text) ≡ Some c → Front text c
       front [] l e = absurd (omega arith)
       front (a ∷ []) l e = absurd (omega arith)
       front (a ∷ b ∷ []) l e = absurd (omega arith)
@@ -146,15 +146,15 @@ module _ (es : List Entry) (capitals : All (λ e. Capitals e.letters) es) where
           record { letters = letters; more = more; is = (cc); means = found_means es letters (rw ten at (sym (code_is table _ l) ∙ e)) }
 
   -- so bytes begin no line just where the first four have no code
-  none_begins : (text : List ℕ) → code table (take 4 text) ≡ none → NoLine es text
+  none_begins : (text : List ℕ) → code table (take 4 text) ≡ None → NoLine es text
   none_begins text e l c more is m = none_some (sym (rw is at e) ∙ means_code m)
 
-  begins_none : (text : List ℕ) → NoLine es text → code table (take 4 text) ≡ none
+  begins_none : (text : List ℕ) → NoLine es text → code table (take 4 text) ≡ None
   begins_none text h = one (code table (take 4 text)) refl
     where
-      one : (o : Option ℕ) → code table (take 4 text) ≡ o → o ≡ none
-      one none w = refl
-      one (some c) w = let f = code_means text w in absurd (h f.letters c f.more f.is f.means)
+      one : (o : Option ℕ) → code table (take 4 text) ≡ o → o ≡ None
+      one None w = refl
+      one (Some c) w = let f = code_means text w in absurd (h f.letters c f.more f.is f.means)
 
   ---- All lines of a text
 
@@ -185,8 +185,8 @@ module _ (es : List Entry) (capitals : All (λ e. Capitals e.letters) es) where
   read (suc n) text h = one (code table (take 4 text)) refl (read n)
     where
       one : (o : Option ℕ) → code table (take 4 text) ≡ o → ((more : List ℕ) → length more < n → Read more) → Read text
-      one none w ih = record { finds = []; constructors = []; rest = text; is = refl; coded = a[]; stops = none_begins text w }
-      one (some c) w ih =
+      one None w ih = record { finds = []; constructors = []; rest = text; is = refl; coded = a[]; stops = none_begins text w }
+      one (Some c) w ih =
           let f = code_means text w in
           let r = ih f.more (omega (arith, ap length f.is)) in
           record {

@@ -2,7 +2,7 @@
 use Rattle.std.specs.Prelude.{if◌then◌else◌}
 use mathlib.Core.Path.{◌≡◌, refl, sym, ◌∙◌}
 use mathlib.Core.List.{List, [], ◌∷◌}
-use mathlib.Core.Option.{some}
+use Rattle.std.specs.Prelude.{Some}
 use mathlib.Core.Bool.{Bool, true, false}
 use Prim.Native.Nat.{ℕ, zero, suc, ◌+◌, ◌≤◌, ◌<◌}
 use native.Mathlib.Omega.{arith}
@@ -45,7 +45,7 @@ module _ (e : List ℕ) (es : List (List ℕ)) (marks : List ℕ) (letters : let
   unfolding lookup
   each_of line h = one (same_letters e line) refl
     where
-      one : (t : Bool) → same_letters e line ≡ t → get_or after (number line) 0 ≡ mark_of (if t then some (byte_at e 3) else lookup es line)
+      one : (t : Bool) → same_letters e line ≡ t → get_or after (number line) 0 ≡ mark_of (if t then Some (byte_at e 3) else lookup es line)
       one true w =
           rw (← same_number e line (same_letters_lem e line w)) (get_or-set_same marks (number e) (byte_at e 3 + 1) 0 there ∙ omega arith)
       one false w =

@@ -1,7 +1,7 @@
 -- The text looked through: the mark at a place, the first line without a code, and what is known where every line has one.
 use mathlib.Core.Path.{◌≡◌, refl, sym, ap, ◌∙◌}
 use mathlib.Core.List.{List, [], ◌∷◌}
-use mathlib.Core.Option.{Option, none, some}
+use Rattle.std.specs.Prelude.{Option, None, Some}
 use mathlib.Core.Bool.{true, false}
 use Prim.Native.Nat.{ℕ, zero, suc, ◌+◌, ◌*◌, ◌/◌, ◌%◌, ◌-◌, ◌≤◌, ◌<◌}
 use native.Mathlib.Omega.{arith}
@@ -55,13 +55,13 @@ module _ (text : List ℕ) (at : ℕ) (marks : List ℕ) where
 
 ---- The first line without a code
 
-mark_none : (o : Option ℕ) → 0 ≡ mark_of o → o ≡ none
-mark_none none e = refl
-mark_none (some c) e = absurd (omega arith)
+mark_none : (o : Option ℕ) → 0 ≡ mark_of o → o ≡ None
+mark_none None e = refl
+mark_none (Some c) e = absurd (omega arith)
 
-mark_some : (o : Option ℕ) → 0 < mark_of o → (c : ℕ) × (o ≡ some c)
-mark_some none h = absurd (omega arith)
-mark_some (some c) h = (c, refl)
+mark_some : (o : Option ℕ) → 0 < mark_of o → (c : ℕ) × (o ≡ Some c)
+mark_some None h = absurd (omega arith)
+mark_some (Some c) h = (c, refl)
 
 -- all lines before a place have codes, so the rest decides
 pub record Passed (text marks : List ℕ) (at : ℕ) : Type 0 where
@@ -98,7 +98,7 @@ module _ {text marks : List ℕ} {at : ℕ} (p : Passed text marks at) where
 
 module _ (es : List (List ℕ)) (marks : List ℕ) (m : Marked es marks) where
   -- a line in front of those that are known
-  module _ (text : List ℕ) (c : ℕ) (cs : List ℕ) (here : code es (take 4 text) ≡ some c) (s : Scanned (drop 4 text) marks cs) where
+  module _ (text : List ℕ) (c : ℕ) (cs : List ℕ) (here : code es (take 4 text) ≡ Some c) (s : Scanned (drop 4 text) marks cs) where
     l : Line (take 4 text)
     l = coded_line es (take 4 text) here
 

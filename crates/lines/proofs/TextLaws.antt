@@ -2,7 +2,7 @@
 use Rattle.std.specs.Prelude.{if◌then◌else◌}
 use mathlib.Core.Path.{◌≡◌, refl, sym, ap, ◌∙◌}
 use mathlib.Core.List.{List, [], ◌∷◌, ◌++◌}
-use mathlib.Core.Option.{Option, none, some}
+use Rattle.std.specs.Prelude.{Option, None, Some}
 use mathlib.Core.Bool.{Bool, true, false, ◌&&◌}
 use Prim.Native.Nat.{ℕ, suc, ◌*◌, ◌<◌}
 use native.Mathlib.Omega.{arith}
@@ -89,7 +89,7 @@ first (c ∷ text) b = one (eqb b 10) refl (first text c)
 ---- Codes
 
 -- a line with a code is right
-pub coded_line : (es : List (List ℕ)) (line : List ℕ) {c : ℕ} → code es line ≡ some c → Line line
+pub coded_line : (es : List (List ℕ)) (line : List ℕ) {c : ℕ} → code es line ≡ Some c → Line line
 unfolding code
 coded_line es line {c} e = one (line_right line) refl
   where
@@ -97,7 +97,7 @@ coded_line es line {c} e = one (line_right line) refl
     one true w = line_is line w
     one false w = none_some (rw w at e)
 
-pub code_none : (es : List (List ℕ)) (line : List ℕ) → (Line line → ⊥) → code es line ≡ none
+pub code_none : (es : List (List ℕ)) (line : List ℕ) → (Line line → ⊥) → code es line ≡ None
 unfolding code
 code_none es line h = rw (not_line line h)
 
@@ -106,23 +106,23 @@ unfolding code
 code_is es line l = rw (is_line line l)
 
 -- a first line that is right is the text's first four bytes
-first_code : (es : List (List ℕ)) (text : List ℕ) (f : First text) → code es (take 4 text) ≡ none → code es f.line ≡ none
+first_code : (es : List (List ℕ)) (text : List ℕ) (f : First text) → code es (take 4 text) ≡ None → code es f.line ≡ None
 first_code es text f e = one (line_right f.line) refl
   where
-    one : (t : Bool) → line_right f.line ≡ t → code es f.line ≡ none
+    one : (t : Bool) → line_right f.line ≡ t → code es f.line ≡ None
     one true w =
         let same : take 4 text ≡ f.line = rw f.front (take_at f.line f.rest 4 (line_is f.line w).four) in
         rw same at e
     one false w = code_none es f.line (λ l. false_true (sym w ∙ is_line f.line l))
 
 -- so the codes of a text are found four bytes at a time, and the first four that have none are refused
-pub codes_wrong : (es : List (List ℕ)) (n : ℕ) (text : List ℕ) → 0 < length text → code es (take 4 text) ≡ none
+pub codes_wrong : (es : List (List ℕ)) (n : ℕ) (text : List ℕ) → 0 < length text → code es (take 4 text) ≡ None
     → codes es n (text_lines text) ≡ refused (refusal 20 n 0)
 unfolding codes
 codes_wrong es n [] h e = absurd (omega arith)
 codes_wrong es n (b ∷ text) h e = let f = first text b in rw (f.lines, first_code es (b ∷ text) f e)
 
-pub codes_right : (es : List (List ℕ)) (n : ℕ) (text : List ℕ) {c : ℕ} → code es (take 4 text) ≡ some c
+pub codes_right : (es : List (List ℕ)) (n : ℕ) (text : List ℕ) {c : ℕ} → code es (take 4 text) ≡ Some c
     → codes es n (text_lines text) ≡ (codes es (suc n) (text_lines (drop 4 text)) >>= (λ cs. found (c ∷ cs)))
 unfolding codes
 codes_right es n text e = rw (first_line text (coded_line es (take 4 text) e), e)
@@ -137,7 +137,7 @@ only_more c (refused r) = refl
 module _ (es : List (List ℕ)) where
   -- the first code is that of the first four bytes
   pub record Next (n : ℕ) (text : List ℕ) (c : ℕ) (cs : List ℕ) : Type 0 where
-    pub coded : code es (take 4 text) ≡ some c
+    pub coded : code es (take 4 text) ≡ Some c
     pub others : codes es (suc n) (text_lines (drop 4 text)) ≡ found cs
 
   pub next : (n : ℕ) (text : List ℕ) (c : ℕ) (cs : List ℕ) → codes es n (text_lines text) ≡ found (c ∷ cs) → Next n text c cs
@@ -146,14 +146,14 @@ module _ (es : List (List ℕ)) where
   next n (b ∷ text) c cs e = one (code es (take 4 (b ∷ text))) refl
     where
       one : (o : Option ℕ) → code es (take 4 (b ∷ text)) ≡ o → Next n (b ∷ text) c cs
-      one none w = absurd (refused_found (sym (codes_wrong es n (b ∷ text) (omega arith) w) ∙ e))
-      one (some d) w =
+      one None w = absurd (refused_found (sym (codes_wrong es n (b ∷ text) (omega arith) w) ∙ e))
+      one (Some d) w =
           let t = codes es (suc n) (text_lines (drop 4 (b ∷ text))) in
           let f = bind_found t (λ ds. found (d ∷ ds)) (sym (codes_right es n (b ∷ text) w) ∙ e) in
           let same : d ∷ f.0 ≡ c ∷ cs = found_inj f.2 in
           let head : d ≡ c = cc in
           let tail : f.0 ≡ cs = cc in
-          record { coded = w ∙ ap some head; others = f.1 ∙ ap found tail }
+          record { coded = w ∙ ap Some head; others = f.1 ∙ ap found tail }
 
   -- no code, no text
   none_left : (n : ℕ) (text : List ℕ) → codes es n (text_lines text) ≡ found [] → length text ≡ 0
@@ -162,8 +162,8 @@ module _ (es : List (List ℕ)) where
   none_left n (b ∷ text) e = one (code es (take 4 (b ∷ text))) refl
     where
       one : (o : Option ℕ) → code es (take 4 (b ∷ text)) ≡ o → length (b ∷ text) ≡ 0
-      one none w = absurd (refused_found (sym (codes_wrong es n (b ∷ text) (omega arith) w) ∙ e))
-      one (some d) w =
+      one None w = absurd (refused_found (sym (codes_wrong es n (b ∷ text) (omega arith) w) ∙ e))
+      one (Some d) w =
           let t = codes es (suc n) (text_lines (drop 4 (b ∷ text))) in
           let f = bind_found t (λ ds. found (d ∷ ds)) (sym (codes_right es n (b ∷ text) w) ∙ e) in
           absurd (let q : d ∷ f.0 ≡ [] = found_inj f.2 in let z : ◌≡◌ {A = ℕ} 0 1 = cc in omega arith)

@@ -1,7 +1,7 @@
 -- What is written of a survey is a list argument. This file only states it; `lines_argument`, `empty_text` and `lines_words_small` of
 -- proofs/Argument.antt prove it.
 use Rattle.std.specs.Prelude.{◌≡◌, List, [], ◌∷◌, true, ℕ, ◌+◌, ◌*◌, ◌≤◌, ◌<◌, length, leb}
-use Rattle.std.proofs.Math.Option.{some}
+use Rattle.std.specs.Prelude.{Some}
 use Rattle.rules.specs.Answers.{length_of, length_words}
 use Rattle.rules.specs.Base.{refusal, found, require, byte_at}
 use Rattle.rules.specs.Lines.{entries, table_right, lookup, text_lines, lines_of}
@@ -16,7 +16,7 @@ use Rattle.rules.specs.WordRules.{Words}
 
 -- a constructor of a program that takes these types and gives that one
 abbrev pub Declared : Program → ℕ → List ℕ → ℕ → Type 0
-Declared s c ts t = (k : Constructor) × (constructor s c ≡ some k) × (k.arguments ≡ ts) × (k.result ≡ t)
+Declared s c ts t = (k : Constructor) × (constructor s c ≡ Some k) × (k.arguments ≡ ts) × (k.result ≡ t)
 
 -- a program with lists of codes: cons takes a code and a list, nil takes nothing, and the table's constructors are constants
 pub record HasLists (s : Program) (table : List ℕ) (cons nil code list : ℕ) : Type 0 where
@@ -33,7 +33,7 @@ list_value cons nil (c ∷ cs) = made cons (made c [] ∷ list_value cons nil cs
 -- first. So the other limit of that check, 256 values still to be read, is never met
 pub record IsList (s : Program) (f : Function) (text table : List ℕ) (cons nil : ℕ) (bytes : List ℕ) : Type 0 where
   pub codes : List ℕ
-  pub of_lines : All2 (λ line c. lookup (entries table) line ≡ some c) (text_lines text) codes
+  pub of_lines : All2 (λ line c. lookup (entries table) line ≡ Some c) (text_lines text) codes
   pub long : length bytes ≡ 2 * length codes + 1
   pub right : arguments_right s f bytes ≡ require (leb (length bytes) 65535) (refusal 12 65535 0)
   pub value : values s bytes ≡ list_value cons nil codes ∷ []

@@ -1,6 +1,6 @@
 -- What the code keeps of a table, and what it knows of a text that it has looked through.
 use Rattle.std.specs.Prelude.{◌≡◌, List, true, ℕ, suc, ◌+◌, ◌*◌, ◌-◌, ◌≤◌, ◌<◌, length, take, drop, get_or}
-use Rattle.std.proofs.Math.Option.{Option, none, some}
+use Rattle.std.specs.Prelude.{Option, None, Some}
 use Rattle.rules.specs.Answers.{length_of}
 use Rattle.rules.specs.Base.{Tried, Check, only, byte_at}
 use Rattle.rules.specs.Lines.{letters_right, lookup, text_lines, code, codes, list_of, in_room}
@@ -12,8 +12,8 @@ number bytes = 676 * (byte_at bytes 0 - 65) + 26 * (byte_at bytes 1 - 65) + (byt
 
 -- a code as a mark, which is 0 where there is none
 abbrev pub mark_of : Option ℕ → ℕ
-mark_of none = 0
-mark_of (some c) = suc c
+mark_of None = 0
+mark_of (Some c) = suc c
 
 -- these are the marks of entries
 pub record Marked (es : List (List ℕ)) (marks : List ℕ) : Type 0 where

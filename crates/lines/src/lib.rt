@@ -2,7 +2,7 @@
 #![tactic(auto)]
 
 ghost use Rattle.std.specs.Prelude.{◌≡◌, length};
-ghost use Rattle.rules.specs.Answers.{told_length, length_of};
+ghost use Rattle.rules.specs.Answers.{told, length_of};
 ghost use Rattle.rules.specs.Lines.{lines_of};
 ghost use Rattle.rules.specs.Memory.{lines_leave};
 
@@ -14,7 +14,7 @@ mod text; // text.rt: the lines of the text
 
 // The text's lines, looked up in the table, as a list at the output's front.
 pub fn lines(text: &[u8], table: &[u8], cons: u8, nil: u8, out: &mut [u8]) -> Length
-    ensures { (told_length result ≡ length_of (lines_of text.now table.now cons nil (length out.old)))
+    ensures { (told result ≡ length_of (lines_of text.now table.now cons nil (length out.old)))
         × (out.new ≡ lines_leave text.now table.now cons nil out.old) }
 {
     if cons == nil {

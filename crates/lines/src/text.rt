@@ -1,6 +1,6 @@
 // The lines of the text: the first that is wrong, and the list of their codes. Every line before a wrong one has four bytes.
 ghost use Rattle.std.specs.Prelude.{◌+◌, ◌*◌, ◌/◌, ◌≤◌, length};
-ghost use Rattle.rules.specs.Answers.{told_check, told_length};
+ghost use Rattle.rules.specs.Answers.{told};
 ghost use Rattle.lines.specs.Marks.{MarkAt, ScanOf, AllScanned, WritesList, DeliversList};
 
 use crate::index::number;
@@ -27,7 +27,7 @@ fn mark(text: &[u8], at: usize, marks: &[u16; 17576]) -> u16
 
 // Whether every line is right and in the table, and which is the first that is not.
 pub fn scan(text: &[u8], marks: &[u16; 17576]) -> Checked
-    ensures { ScanOf marks.now text.now (told_check result) }
+    ensures { ScanOf marks.now text.now (told result) }
 {
     let mut at: usize = 0;
     while at < text.len() {
@@ -58,7 +58,7 @@ fn write(text: &[u8], marks: &[u16; 17576], cons: u8, nil: u8, out: &mut [u8])
 // The list of the codes of lines that are right, if the output has room for it.
 pub fn deliver(text: &[u8], marks: &[u16; 17576], cons: u8, nil: u8, out: &mut [u8]) -> Length
     requires { AllScanned text.now marks.now }
-    ensures { DeliversList text.now marks.now cons nil out.old out.new (told_length result) }
+    ensures { DeliversList text.now marks.now cons nil out.old out.new (told result) }
 {
     let needed = 2 * (text.len() / 4) + 1;
     if out.len() < needed {

@@ -2,7 +2,7 @@
 use Prim.Native.Nat.{ℕ, ◌+◌, ◌-◌, ◌≤◌, ◌<◌}
 use mathlib.Core.Path.{◌≡◌, refl, sym, ap, ap₂, ◌∙◌}
 use mathlib.Core.List.{List, ◌∷◌}
-use mathlib.Core.Option.{none, some}
+use Rattle.std.specs.Prelude.{None, Some}
 use native.Mathlib.Omega.{arith}
 use lib.ListN.{length}
 use Rattle.rules.specs.Base.{refusal}
@@ -31,7 +31,7 @@ use Rattle.steps.proofs.StandLaws.{waiting_same, waiting_heights, waiting_length
 use Rattle.steps.proofs.StepLaws.{took, refuses_frames, refuses_stack}
 
 module _ (file : List ℕ) (m : Limits) (cells stack : List ℕ) (r : Registers) (i : ℕ) (ws : List Frame)
-    (ok : Standing file m cells stack r i ws) (cur : current (program_in file) (place r.function i) ≡ some (Call r.callee)) where
+    (ok : Standing file m cells stack r i ws) (cur : current (program_in file) (place r.function i) ≡ Some (Call r.callee)) where
   abbrev s : Program
   s = program_in file
 
@@ -53,11 +53,11 @@ module _ (file : List ℕ) (m : Limits) (cells stack : List ℕ) (r : Registers)
   abbrev n : ℕ
   n = inputs (program_in file) r.callee
 
-  ends : end_on (program_in file) here.heap here.frames ≡ none
+  ends : end_on (program_in file) here.heap here.frames ≡ None
   unfolding returned
   ends = not_ended s here.heap fr others cur refl
 
-  shape : (f : Function) × (function (program_in file) r.callee ≡ some f) × (length f.parameters ≤ r.top - r.base)
+  shape : (f : Function) × (function (program_in file) r.callee ≡ Some f) × (length f.parameters ≤ r.top - r.base)
   unfolding execute_on
   shape =
       let x = lives file m cells stack r i ws ok ends in
@@ -77,11 +77,11 @@ module _ (file : List ℕ) (m : Limits) (cells stack : List ℕ) (r : Registers)
   abbrev next : HeapState
   next = heap_state here.heap (entered g (refs stack (r.base + (h - n)) n) ∷ fr ∷ others)
 
-  steps : heap_step (program_in file) here ≡ some next
+  steps : heap_step (program_in file) here ≡ Some next
   steps =
       let q = refs_split stack r.base h n (omega (arith, call_deep)) in
       let q' : split (length shape.0.parameters) (refs stack r.base h)
-      ≡ some (refs stack r.base (h - n), refs stack (r.base + (h - n)) n) =
+      ≡ Some (refs stack r.base (h - n), refs stack (r.base + (h - n)) n) =
       ap (λ (x : ℕ). split x (refs stack r.base h)) (sym is_inputs) ∙ q in
       step_is s here.heap fr others cur ∙ exec_call s here.heap fr others g shape.1 q'
 
@@ -161,5 +161,5 @@ module _ (file : List ℕ) (m : Limits) (cells stack : List ℕ) (r : Registers)
           (waiting_for r i ∷ ws)
       call_goes =
           took file m budget cells stack r i ws fits ok cells stack' t 1 (w ∷ ws) ends
-          (steps ∙ ap₂ (λ (x : List ℕ) (y : List HeapFrame). some (heap_state here.heap (entered g x ∷ y))) on_top (sym waits)) laid
+          (steps ∙ ap₂ (λ (x : List ℕ) (y : List HeapFrame). Some (heap_state here.heap (entered g x ∷ y))) on_top (sym waits)) laid
           (omega arith)

@@ -2,7 +2,7 @@
 use Prim.Native.Nat.{ℕ, zero, suc, ◌+◌, ◌-◌, ◌%◌, ◌≤◌, ◌<◌}
 use mathlib.Core.Path.{◌≡◌, refl, sym, ap, ◌∙◌}
 use mathlib.Core.List.{List, [], ◌∷◌}
-use mathlib.Core.Option.{none, some}
+use Rattle.std.specs.Prelude.{None, Some}
 use mathlib.Core.Bool.{Bool, true, false}
 use native.Mathlib.Omega.{arith}
 use lib.ListN.{length, get_or}
@@ -48,18 +48,18 @@ no_frames [] e = refl
 no_frames (w ∷ ws) e = absurd (omega (arith, e))
 
 -- above waiting frames nothing ends
-waiting_some : (s : Program) (heap : Heap) (fr w : HeapFrame) (others : List HeapFrame) → end_on s heap (fr ∷ w ∷ others) ≡ none
+waiting_some : (s : Program) (heap : Heap) (fr w : HeapFrame) (others : List HeapFrame) → end_on s heap (fr ∷ w ∷ others) ≡ None
 unfolding end_on result_on
 waiting_some s heap fr w others = refl
 
-returned_there : (s : Program) (fr : Framed) → current s fr ≡ some Return → result_of s (fr ∷ []) ≡ top fr.stack
+returned_there : (s : Program) (fr : Framed) → current s fr ≡ Some Return → result_of s (fr ∷ []) ≡ top fr.stack
 unfolding result_of returned
 returned_there s fr e = rw e
 
 ---- A return in the only frame
 
 module _ (file : List ℕ) (m : Limits) (cells stack : List ℕ) (r : Registers) (i : ℕ) (ok : Standing file m cells stack r i [])
-    (cur : current (program_in file) (place r.function i) ≡ some Return) where
+    (cur : current (program_in file) (place r.function i) ≡ Some Return) where
   abbrev s : Program
   s = program_in file
 
@@ -77,11 +77,11 @@ module _ (file : List ℕ) (m : Limits) (cells stack : List ℕ) (r : Registers)
   unfolding result_on waiting_on returned
   result_is = rw cur
 
-  none_there : r.top - r.base ≡ 0 → end_on (program_in file) here.heap here.frames ≡ none
+  none_there : r.top - r.base ≡ 0 → end_on (program_in file) here.heap here.frames ≡ None
   unfolding end_on waiting_on refs split
-  none_there e = let q : result_on s here.frames ≡ none = result_is ∙ ap (λ (n : ℕ). top (refs stack r.base n)) e in rw q
+  none_there e = let q : result_on s here.frames ≡ None = result_is ∙ ap (λ (n : ℕ). top (refs stack r.base n)) e in rw q
 
-  stuck : heap_step (program_in file) here ≡ none
+  stuck : heap_step (program_in file) here ≡ None
   unfolding execute_on waiting_on
   stuck = step_is s here.heap fr [] cur
 
@@ -92,20 +92,20 @@ module _ (file : List ℕ) (m : Limits) (cells stack : List ℕ) (r : Registers)
       go zero e = none_some (sym stuck ∙ (lives file m cells stack r i [] ok (none_there e)).1)
       go (suc n) e = omega (arith, e)
 
-  value_there : top (refs stack r.base (r.top - r.base)) ≡ some (top_reference stack r)
+  value_there : top (refs stack r.base (r.top - r.base)) ≡ Some (top_reference stack r)
   value_there =
       let e : r.base + h - 1 ≡ r.top - 1 = omega (arith, ok.laid.bottom) in
-      refs_top stack r.base h (omega (arith, result_deep)) ∙ ap (λ (j : ℕ). some (get_or stack j 0)) e
+      refs_top stack r.base h (omega (arith, result_deep)) ∙ ap (λ (j : ℕ). Some (get_or stack j 0)) e
 
   pub result_ends : end_on (program_in file) here.heap here.frames
-      ≡ some (finished (written (value_of here.heap (top_reference stack r))))
+      ≡ Some (finished (written (value_of here.heap (top_reference stack r))))
   unfolding end_on waiting_on
   result_ends = rw (result_is ∙ value_there)
 
-  result_value : result_of (program_in file) (state_of here) ≡ some (value_of here.heap (top_reference stack r))
+  result_value : result_of (program_in file) (state_of here) ≡ Some (value_of here.heap (top_reference stack r))
   unfolding result_of waiting_on current
   result_value =
-      let q : current s (frame_of here.heap fr) ≡ some Return = cur in
+      let q : current s (frame_of here.heap fr) ≡ Some Return = cur in
       returned_there s (frame_of here.heap fr) q ∙ top_mapped s here.heap fr.stack ∙ ap (option_map (value_of here.heap))
       value_there
 
@@ -126,7 +126,7 @@ module _ (file : List ℕ) (m : Limits) (budget : ℕ) (cells stack : List ℕ) 
   abbrev heap : Heap
   heap = heap_in (arity (program_in file)) cells r.used
 
-  pub stop_ends : current (program_in file) (place r.function i) ≡ some Stop → 0 < r.left
+  pub stop_ends : current (program_in file) (place r.function i) ≡ Some Stop → 0 < r.left
       → answers_on (program_in file) m budget cells stack r i ws ≡ answer aborted (suc (budget - r.left))
   unfolding returned execute_on end_on heights_on
   stop_ends cur left =
@@ -140,7 +140,7 @@ module _ (file : List ℕ) (m : Limits) (budget : ℕ) (cells stack : List ℕ) 
 
   ---- No step is left
 
-  pub spent_ends : end_on (program_in file) heap (fr₁ ∷ others) ≡ none → r.left ≡ 0
+  pub spent_ends : end_on (program_in file) heap (fr₁ ∷ others) ≡ None → r.left ≡ 0
       → answers_on (program_in file) m budget cells stack r i ws ≡ answer (refused_with (refusal 14 r.function i)) (budget - r.left)
   spent_ends ends none_left =
       ap (λ (k : ℕ). continued_on (program_in file) (tables m) k (budget - r.left) (state_in (program_in file) cells stack r i ws))
@@ -148,40 +148,40 @@ module _ (file : List ℕ) (m : Limits) (budget : ℕ) (cells stack : List ℕ) 
       ∙ spent_on (program_in file) (tables m) (budget - r.left) heap fr₁ others ends
 
   -- frames wait
-  pub waiting_on_lem : (length ws ≡ 0 → ⊥) → end_on (program_in file) heap (fr₁ ∷ others) ≡ none
+  pub waiting_on_lem : (length ws ≡ 0 → ⊥) → end_on (program_in file) heap (fr₁ ∷ others) ≡ None
   unfolding waiting_on
   waiting_on_lem n = go ws n
     where
-      go : (vs : List Frame) → (length vs ≡ 0 → ⊥) → end_on (program_in file) heap (fr₁ ∷ waiting_on stack vs r.base) ≡ none
+      go : (vs : List Frame) → (length vs ≡ 0 → ⊥) → end_on (program_in file) heap (fr₁ ∷ waiting_on stack vs r.base) ≡ None
       go [] z = absurd (z refl)
       go (v ∷ vs) z = waiting_some (program_in file) heap fr₁ _ _
 
   -- or the instruction is no return
   pub no_return : Parsed file → {w : ℕ} → WordThere (payload file) (offset_at r.at) w → (w % 256 ≡ 5 → ⊥)
-      → end_on (program_in file) heap (fr₁ ∷ others) ≡ none
+      → end_on (program_in file) heap (fr₁ ∷ others) ≡ None
   unfolding returned
   no_return parsed {w} word n = one (eqb (w % 256) 1) refl
     where
-      none_here : {ins : Instruction} → current (program_in file) (place r.function i) ≡ some ins
-          → returned (program_in file) ins fr₁.stack ≡ none → end_on (program_in file) heap (fr₁ ∷ others) ≡ none
+      none_here : {ins : Instruction} → current (program_in file) (place r.function i) ≡ Some ins
+          → returned (program_in file) ins fr₁.stack ≡ None → end_on (program_in file) heap (fr₁ ∷ others) ≡ None
       none_here cur q = not_ended (program_in file) heap fr₁ others cur q
 
       four : (t : Bool) → (w % 256 ≡ 1 → ⊥) → (w % 256 ≡ 2 → ⊥) → (w % 256 ≡ 3 → ⊥) → eqb (w % 256) 4 ≡ t
-          → end_on (program_in file) heap (fr₁ ∷ others) ≡ none
+          → end_on (program_in file) heap (fr₁ ∷ others) ≡ None
       four true n₁ n₂ n₃ e =
           none_here (at_branch file parsed m cells stack r i ws ok word (eqb-true (w % 256) 4 e)) refl
       four false n₁ n₂ n₃ e =
           none_here (at_stop file parsed m cells stack r i ws ok word n₁ n₂ n₃ (eqb-false (w % 256) 4 e) n) refl
 
-      three : (t : Bool) → (w % 256 ≡ 1 → ⊥) → (w % 256 ≡ 2 → ⊥) → eqb (w % 256) 3 ≡ t → end_on (program_in file) heap (fr₁ ∷ others) ≡ none
+      three : (t : Bool) → (w % 256 ≡ 1 → ⊥) → (w % 256 ≡ 2 → ⊥) → eqb (w % 256) 3 ≡ t → end_on (program_in file) heap (fr₁ ∷ others) ≡ None
       three true n₁ n₂ e = none_here (at_call file parsed m cells stack r i ws ok word (eqb-true (w % 256) 3 e)) refl
       three false n₁ n₂ e = four (eqb (w % 256) 4) n₁ n₂ (eqb-false (w % 256) 3 e) refl
 
-      two : (t : Bool) → (w % 256 ≡ 1 → ⊥) → eqb (w % 256) 2 ≡ t → end_on (program_in file) heap (fr₁ ∷ others) ≡ none
+      two : (t : Bool) → (w % 256 ≡ 1 → ⊥) → eqb (w % 256) 2 ≡ t → end_on (program_in file) heap (fr₁ ∷ others) ≡ None
       two true n₁ e = none_here (at_build file parsed m cells stack r i ws ok word (eqb-true (w % 256) 2 e)) refl
       two false n₁ e = three (eqb (w % 256) 3) n₁ (eqb-false (w % 256) 2 e) refl
 
-      one : (t : Bool) → eqb (w % 256) 1 ≡ t → end_on (program_in file) heap (fr₁ ∷ others) ≡ none
+      one : (t : Bool) → eqb (w % 256) 1 ≡ t → end_on (program_in file) heap (fr₁ ∷ others) ≡ None
       one true e = none_here (at_load file parsed m cells stack r i ws ok word (eqb-true (w % 256) 1 e)) refl
       one false e = two (eqb (w % 256) 2) (eqb-false (w % 256) 1 e) refl
 
@@ -192,7 +192,7 @@ module _ (file : List ℕ) (parsed : Parsed file) (m : Limits) (budget : ℕ) (s
     (fits : r.left ≤ budget) (rests : Rests file m budget cells stack r i ws) (over : 2 < r.why)
     (same : said ≡ answers_on (program_in file) m budget cells stack r i ws) where
   -- the result on top of the stack
-  with_result : length ws ≡ 0 → current (program_in file) (place r.function i) ≡ some Return
+  with_result : length ws ≡ 0 → current (program_in file) (place r.function i) ≡ Some Return
       → (r.base < r.top)
       × (length (written (value_of (heap_in (arity (program_in file)) cells r.used) (top_reference stack r))) < 4294967296)
       × (said ≡ answer (finished (written (value_of (heap_in (arity (program_in file)) cells r.used) (top_reference stack r))))

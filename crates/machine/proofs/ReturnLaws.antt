@@ -2,7 +2,7 @@
 use Prim.Native.Nat.{ℕ, suc, ◌+◌, ◌-◌, ◌≤◌, ◌<◌}
 use mathlib.Core.Path.{◌≡◌, refl, sym, ap, ap₂, ◌∙◌, subst}
 use mathlib.Core.List.{List, [], ◌∷◌}
-use mathlib.Core.Option.{none, some}
+use Rattle.std.specs.Prelude.{None, Some}
 use native.Mathlib.Omega.{arith}
 use lib.ListN.{length, get_or, set}
 use Rattle.rules.specs.Heap.{HeapFrame, HeapState, heap_state, heap_onward, execute_on, heap_step}
@@ -30,7 +30,7 @@ use Rattle.steps.proofs.StepLaws.{took}
 
 -- above a waiting frame w
 module _ (file : List ℕ) (m : Limits) (cells stack : List ℕ) (r : Registers) (i : ℕ) (w : Frame) (ws : List Frame)
-    (ok : Standing file m cells stack r i (w ∷ ws)) (cur : current (program_in file) (place r.function i) ≡ some Return) where
+    (ok : Standing file m cells stack r i (w ∷ ws)) (cur : current (program_in file) (place r.function i) ≡ Some Return) where
   abbrev s : Program
   s = program_in file
 
@@ -55,12 +55,12 @@ module _ (file : List ℕ) (m : Limits) (cells stack : List ℕ) (r : Registers)
 
   pub leave_linked : (w.height ≤ r.base) × (inputs (program_in file) r.function ≤ w.height)
       × (r.function < length (program_in file).functions)
-      × (current (program_in file) (place w.function w.instruction) ≡ some (Call r.function))
+      × (current (program_in file) (place w.function w.instruction) ≡ Some (Call r.function))
       × Linked (program_in file) ws (r.base - w.height) w.function
   unfolding Linked
   leave_linked = ok.laid.linked
 
-  ends : end_on (program_in file) here.heap here.frames ≡ none
+  ends : end_on (program_in file) here.heap here.frames ≡ None
   unfolding end_on result_on waiting_on
   ends = refl
 
@@ -82,12 +82,12 @@ module _ (file : List ℕ) (m : Limits) (cells stack : List ℕ) (r : Registers)
   abbrev next : HeapState
   next = heap_state here.heap (heap_onward wait (push (refs stack (r.base - w.height) (w.height - n)) k) ∷ others)
 
-  steps : heap_step (program_in file) here ≡ some next
+  steps : heap_step (program_in file) here ≡ Some next
   steps =
       let f = get_some s.functions r.function leave_linked.2 in
       let e : r.base + h - 1 ≡ r.top - 1 = omega (arith, ok.laid.bottom) in
-      let t : top (refs stack r.base h) ≡ some k =
-      refs_top stack r.base h (omega (arith, leave_deep)) ∙ ap (λ (j : ℕ). some (get_or stack j 0)) e in
+      let t : top (refs stack r.base h) ≡ Some k =
+      refs_top stack r.base h (omega (arith, leave_deep)) ∙ ap (λ (j : ℕ). Some (get_or stack j 0)) e in
       let q = refs_split stack (r.base - w.height) w.height n leave_linked.1 in
       steps_to
       ∙ exec_return s here.heap fr others wait r.function t leave_linked.3 f.1
@@ -131,5 +131,5 @@ module _ (file : List ℕ) (m : Limits) (cells stack : List ℕ) (r : Registers)
         ≡ refs stack' (r.base - w.height) (r.base - n + 1 - (r.base - w.height)) =
         ap (λ (x : ℕ). push (refs stack (r.base - w.height) x) k) (sym e) ∙ sym p.0 in
         took file m budget cells stack r i (w ∷ ws) fits ok cells stack' t (suc w.instruction) ws ends
-        (steps ∙ ap₂ (λ (x : List ℕ) (y : List HeapFrame). some (heap_state here.heap (heap_onward wait x ∷ y))) on_top (sym p.1)) laid
+        (steps ∙ ap₂ (λ (x : List ℕ) (y : List HeapFrame). Some (heap_state here.heap (heap_onward wait x ∷ y))) on_top (sym p.1)) laid
         (omega arith)

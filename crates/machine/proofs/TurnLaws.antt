@@ -2,7 +2,7 @@
 use Prim.Native.Nat.{ℕ, suc, ◌+◌, ◌-◌, ◌/◌, ◌≤◌, ◌<◌}
 use mathlib.Core.Path.{◌≡◌, refl, sym, ap, ◌∙◌, subst}
 use mathlib.Core.List.{List, ◌∷◌}
-use mathlib.Core.Option.{some}
+use Rattle.std.specs.Prelude.{Some}
 use native.Mathlib.Omega.{arith}
 use native.Mathlib.Numerals.{add-one}
 use lib.ListN.{length, get_or, set}
@@ -82,7 +82,7 @@ module _ (file index : List ℕ) (m : Limits) (cells stack : List ℕ) (frames :
   frame_ready = omega (arith, put_ready)
 
   module _ (calls : r.why ≡ 1) where
-    cur : current (program_in file) (place r.function rested.instruction) ≡ some (Call r.callee)
+    cur : current (program_in file) (place r.function rested.instruction) ≡ Some (Call r.callee)
     cur = (rested.rests.calls calls).1
 
     callee : (r.callee < byte_at (payload file) 3) × (function_arity file r.callee ≡ inputs (program_in file) r.callee)
@@ -217,8 +217,8 @@ module _ (file index : List ℕ) (m : Limits) (cells stack : List ℕ) (frames :
 
   pub over_turned : (r.why ≡ 1 → ⊥) → (r.why ≡ 2 → r.depth ≡ 0) → {t : Registers} → Over r t
       → Turned file m cells stack frames r stack frames t
-  over_turned none alone (over_other n) = other_turned none n
-  over_turned none alone (over_result e) = result_turned e (alone e)
+  over_turned None alone (over_other n) = other_turned None n
+  over_turned None alone (over_result e) = result_turned e (alone e)
 
   module _ (e : r.why ≡ 2) (waits : r.depth ≡ 0 → ⊥) where
     abbrev w : Frame
@@ -236,7 +236,7 @@ module _ (file index : List ℕ) (m : Limits) (cells stack : List ℕ) (frames :
         → Standing file m cells stack r j (frame_in frames (r.depth - 1) ∷ frames_in frames (r.depth - 1))
     on_w j on = subst (λ (x : List Frame). Standing file m cells stack r j x) split_off on
 
-    returns_here : current (program_in file) (place r.function rested.instruction) ≡ some Return
+    returns_here : current (program_in file) (place r.function rested.instruction) ≡ Some Return
     returns_here = (rested.rests.returns e).1
 
     -- the frame below is at a call of this function, with its arguments on top
@@ -247,7 +247,7 @@ module _ (file index : List ℕ) (m : Limits) (cells stack : List ℕ) (frames :
     enough = (leave_linked file m cells stack r i w vs (on_w i ok) returns_here).1
 
     called : current (program_in file) (place (frame_in frames (r.depth - 1)).function (frame_in frames (r.depth - 1)).instruction)
-        ≡ some (Call r.function)
+        ≡ Some (Call r.function)
     called = (leave_linked file m cells stack r i w vs (on_w i ok) returns_here).3
 
     here_arity : (r.function < byte_at (payload file) 3) × (function_arity file r.function ≡ inputs (program_in file) r.function)

@@ -2,7 +2,7 @@
 use mathlib.Core.Path.{◌≡◌, sym, ap, subst, ◌∙◌}
 use mathlib.Core.List.{List}
 use mathlib.Core.Bool.{true}
-use mathlib.Core.Option.{Option, none, some}
+use Rattle.std.specs.Prelude.{Option, None, Some}
 use Prim.Native.Nat.{ℕ, ◌+◌}
 use native.Mathlib.Omega.{arith}
 use Rattle.rules.specs.declared.records.Alternative.{Alternative}
@@ -27,9 +27,9 @@ use Rattle.rules.proofs.TriedLaws.{bind_found, found_inj}
 use Rattle.opened.specs.Opened.{counts_from, counts_in, FunctionRead, OpenExact}
 use Rattle.standing.proofs.StandingLaws.{seen_payload}
 
-is_some_lem : {A : Type 0} (o : Option A) (b : A) {a : A} → is_some o ≡ true → or_else o b ≡ a → o ≡ some a
-is_some_lem none b t e = let z : ◌≡◌ {A = ℕ} 0 1 = cc in absurd (omega arith)
-is_some_lem (some x) b t e = ap some e
+is_some_lem : {A : Type 0} (o : Option A) (b : A) {a : A} → is_some o ≡ true → or_else o b ≡ a → o ≡ Some a
+is_some_lem None b t e = let z : ◌≡◌ {A = ℕ} 0 1 = cc in absurd (omega arith)
+is_some_lem (Some x) b t e = ap Some e
 
 module _ {file : List ℕ} (v : Verified file) where
   function_read : (at : ℕ) → FunctionThere (payload file) at → FunctionRead file (function_of (payload file) at) at
@@ -80,12 +80,12 @@ open_exact file s e =
       counts = ap counts_from (verdict_accepted file e);
       constructors = λ c k h.
           let n = numbered_is (λ c. constructor_of (constructor_at (payload file) (constructor_offset c))) (byte_at (payload file) 2) c
-          (subst (λ (x : Program). constructor x c ≡ some k) (sym p.1) h) in
+          (subst (λ (x : Program). constructor x c ≡ Some k) (sym p.1) h) in
           let r = seen_payload v 8 (constructor_offset c) (t.constructor c n.0).0 in
           (r.0, rw r.1 (sym n.1));
       functions = λ g f h.
           let n = numbered_is (λ g. function_of (payload file) (head_offset (payload file) g)) (byte_at (payload file) 3) g
-          (subst (λ (x : Program). function x g ≡ some f) (sym p.1) h) in
+          (subst (λ (x : Program). function x g ≡ Some f) (sym p.1) h) in
           subst (λ (x : Function). FunctionRead file x (head_offset (payload file) g)) (sym n.1)
           (function_read v (head_offset (payload file) g) (t.function g n.0));
     }

@@ -1,8 +1,7 @@
 -- The open program, and what its readers find of a program that the check accepts.
 use Rattle.std.specs.Prelude.{◌≡◌, List, true, ℕ, length}
-use Rattle.std.proofs.Math.Option.{some}
+use Rattle.std.specs.Prelude.{Some, slice_get}
 use Rattle.std.specs.Borrow.{Bor}
-use Rattle.std.proofs.Math.ListN.{get_elem?}
 use Rattle.rules.specs.declared.answers.Counts.{Counts}
 use Rattle.rules.specs.declared.records.Alternative.{Alternative}
 use Rattle.rules.specs.declared.records.Instruction.{Instruction}
@@ -40,19 +39,19 @@ pub record FunctionRead (file : List ℕ) (f : Function) (at : ℕ) : Type 0 whe
   pub parameters : arguments_of (head_found file at).head.declaration ≡ f.parameters
   pub alternatives : (head_found file at).head.alternatives ≡ length f.bound
   pub instructions : (head_found file at).head.instructions ≡ length f.code
-  pub bound : (k : ℕ) (a : Alternative) → get_elem? f.bound k ≡ some a
+  pub bound : (k : ℕ) (a : Alternative) → slice_get f.bound k ≡ Some a
       → ((alternative_found file (alternative_offset at k)).there ≡ true)
       × (alternative_of (arity f) (alternative_found file (alternative_offset at k)).alternative ≡ a)
-  pub code : (i : ℕ) (ins : Instruction) → get_elem? f.code i ≡ some ins
+  pub code : (i : ℕ) (ins : Instruction) → slice_get f.code i ≡ Some ins
       → ((instruction_found file (instruction_offset (code_offset (payload file) at) i)).there ≡ true)
-      × (operation (instruction_found file (instruction_offset (code_offset (payload file) at) i)).instruction ≡ some ins)
+      × (operation (instruction_found file (instruction_offset (code_offset (payload file) at) i)).instruction ≡ Some ins)
 
 pub record ProgramRead (file : List ℕ) (s : Program) : Type 0 where
   pub counts : counts_in file ≡ counts_of s
-  pub constructors : (c : ℕ) (k : Constructor) → constructor s c ≡ some k
+  pub constructors : (c : ℕ) (k : Constructor) → constructor s c ≡ Some k
       → ((constructor_found file (constructor_offset c)).there ≡ true)
       × (constructor_of (constructor_found file (constructor_offset c)).constructor ≡ k)
-  pub functions : (g : ℕ) (f : Function) → function s g ≡ some f → FunctionRead file f (head_offset (payload file) g)
+  pub functions : (g : ℕ) (f : Function) → function s g ≡ Some f → FunctionRead file f (head_offset (payload file) g)
 
 abbrev pub OpenExact : Type 0
 OpenExact = (file : List ℕ) (s : Program) → checked file ≡ found s → ProgramRead file s

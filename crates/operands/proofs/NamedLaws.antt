@@ -1,7 +1,7 @@
 -- A rule over the signature that an instruction names, where there is none, and where there is one.
 use mathlib.Core.Path.{◌≡◌, ap, ◌∙◌}
 use mathlib.Core.List.{List}
-use mathlib.Core.Option.{Option, none, some}
+use Rattle.std.specs.Prelude.{Option, None, Some}
 use mathlib.Core.Bool.{true, false}
 use Prim.Native.Nat.{ℕ}
 use Rattle.rules.specs.Base.{Tried, refused, refusal}
@@ -17,10 +17,10 @@ use Rattle.operands.proofs.OperationLaws.{type_wrong}
 module _ {o : Option Signature} {l : Lookup} (finds : Finds o l) (rule : Option Signature → Tried (List (Arrow (List ℕ)))) {n i : ℕ}
     {here : List ℕ}
     {r : TypedStep} where
-  pub rule_missing : {st : Stack} → rule none ≡ refused (refusal 8 n i) → r ≡ no_arrow true st → InBounds st → l.known ≡ false
+  pub rule_missing : {st : Stack} → rule None ≡ refused (refusal 8 n i) → r ≡ no_arrow true st → InBounds st → l.known ≡ false
       → TypeSays n i here r (rule o)
   rule_missing e q b w = type_wrong n i here q b (ap rule (finds.unknown w) ∙ e)
 
-  pub rule_found : l.known ≡ true → TypeSays n i here r (rule (some (arguments_of l.signature, l.signature.result)))
+  pub rule_found : l.known ≡ true → TypeSays n i here r (rule (Some (arguments_of l.signature, l.signature.result)))
       → TypeSays n i here r (rule o)
   rule_found w t = rw (finds.known w) t

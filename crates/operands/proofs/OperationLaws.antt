@@ -1,12 +1,12 @@
 -- Laws of the type rules of one instruction, in the words of the code's answers.
 use mathlib.Core.Path.{◌≡◌, refl, ap, ◌∙◌}
 use mathlib.Core.List.{List, [], ◌∷◌, ◌++◌}
-use mathlib.Core.Option.{none, some}
+use Rattle.std.specs.Prelude.{None, Some, slice_get}
 use mathlib.Core.Bool.{Bool, true, false}
 use Prim.Native.Nat.{ℕ, zero, suc, ◌+◌, ◌-◌, ◌≤◌, ◌<◌}
 use native.Mathlib.Omega.{arith}
 use native.Mathlib.Numerals.{add-one}
-use lib.ListN.{length, get_or, get_elem?, length-append}
+use lib.ListN.{length, get_or, length-append}
 use lib.Seq.{get_or-take}
 use lib.Dec.{leb}
 use borrow.Author.Tests.{le-leb, lt-leb}
@@ -53,20 +53,20 @@ module _ (s : Program) (n : ℕ) (f : Function) (i : ℕ) where
 
 ---- Load
 
-slot_past : (a : ℕ) (l : List ℕ) → length l < a → slot a l ≡ none
+slot_past : (a : ℕ) (l : List ℕ) → length l < a → slot a l ≡ None
 slot_past zero l h = absurd (omega arith)
 slot_past (suc k) l h = past l k (omega arith)
   where
-    past : (l : List ℕ) (k : ℕ) → length l ≤ k → get_elem? l k ≡ none
+    past : (l : List ℕ) (k : ℕ) → length l ≤ k → slice_get l k ≡ None
     past [] k h = refl
     past (x ∷ l) zero h = absurd (omega arith)
     past (x ∷ l) (suc k) h = past l k (omega arith)
 
-slot_at : (a : ℕ) (l : List ℕ) → (a ≡ 0 → ⊥) → a ≤ length l → slot a l ≡ some (get_or l (a - 1) 0)
+slot_at : (a : ℕ) (l : List ℕ) → (a ≡ 0 → ⊥) → a ≤ length l → slot a l ≡ Some (get_or l (a - 1) 0)
 slot_at zero l h h' = absurd (h refl)
 slot_at (suc k) l h h' = let e : suc k - 1 ≡ k = omega arith in rw e (there l k (omega arith))
   where
-    there : (l : List ℕ) (k : ℕ) → k < length l → get_elem? l k ≡ some (get_or l k 0)
+    there : (l : List ℕ) (k : ℕ) → k < length l → slice_get l k ≡ Some (get_or l k 0)
     there [] k h = absurd (omega arith)
     there (x ∷ l) zero h = refl
     there (x ∷ l) (suc k) h = there l k (omega arith)

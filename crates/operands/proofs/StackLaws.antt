@@ -2,7 +2,7 @@
 use Rattle.std.specs.Prelude.{if◌then◌else◌}
 use mathlib.Core.Path.{◌≡◌, refl, sym, ap, ◌∙◌}
 use mathlib.Core.List.{List, [], ◌++◌, append_assoc, append-nil}
-use mathlib.Core.Option.{Option, none, some}
+use Rattle.std.specs.Prelude.{Option, None, Some}
 use mathlib.Core.Bool.{Bool, true, false, not, ◌&&◌}
 use Prim.Native.Nat.{ℕ, suc, ◌+◌, ◌-◌, ◌≤◌, ◌<◌}
 use native.Mathlib.Omega.{arith}
@@ -133,7 +133,7 @@ module _ (types stack : List ℕ) where
   under = take (length stack - length types) stack
 
   abbrev parts : Option (List ℕ × List ℕ)
-  parts = some (under, drop (length stack - length types) stack)
+  parts = Some (under, drop (length stack - length types) stack)
 
 module _ (s : Program) (n : ℕ) (f : Function) (i : ℕ) (types stack : List ℕ) where
   below_is : below s n f i types stack ≡ (if ends_in stack types then found (under types stack) else refused (refusal 8 n i))
@@ -146,7 +146,7 @@ module _ (s : Program) (n : ℕ) (f : Function) (i : ℕ) (types stack : List �
       ends false = refl
 
       go : (t : Bool)
-          → (or_refuse (if t then parts types stack else none) (refusal 8 n i)
+          → (or_refuse (if t then parts types stack else None) (refusal 8 n i)
           >>= (λ parts. require (same parts.1 types) (refusal 8 n i) >>= (λ _. found parts.0)))
           ≡ (if t && same (drop (length stack - length types) stack) types then found (under types stack) else refused (refusal 8 n i))
       go true = ends (same (drop (length stack - length types) stack) types)

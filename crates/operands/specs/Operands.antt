@@ -1,6 +1,6 @@
 -- The types of a stack as the type pass keeps them, and what its answers say.
 use Rattle.std.specs.Prelude.{if◌then◌else◌, ◌≡◌, List, [], ◌∷◌, ◌++◌, Bool, true, false, ◌&&◌, ℕ, ◌-◌, ◌≤◌, length, take, drop, leb}
-use Rattle.std.proofs.Math.Option.{Option, none, some}
+use Rattle.std.specs.Prelude.{Option, None, Some}
 use Rattle.rules.specs.Base.{Tried, found, refused, refusal, ◌>>=◌}
 use Rattle.rules.specs.Program.{Function, Program}
 use Rattle.rules.specs.Records.{arguments_of}
@@ -75,15 +75,15 @@ Signature = List ℕ × ℕ
 
 -- what was looked up
 pub record Finds (o : Option Signature) (l : Lookup) : Type 0 where
-  pub unknown : l.known ≡ false → o ≡ none
-  pub known : l.known ≡ true → o ≡ some (arguments_of l.signature, l.signature.result)
+  pub unknown : l.known ≡ false → o ≡ None
+  pub known : l.known ≡ true → o ≡ Some (arguments_of l.signature, l.signature.result)
   pub few : l.signature.arity ≤ 4
 
 -- a build or a call of what is named, and a branch on it
 abbrev pub applied_to : Program → ℕ → Function → ℕ → Option Signature → List ℕ → Tried (List (Arrow (List ℕ)))
-applied_to s n f i none stack = refused (refusal 8 n i)
-applied_to s n f i (some d) stack = applied s n f i d.0 d.1 stack
+applied_to s n f i None stack = refused (refusal 8 n i)
+applied_to s n f i (Some d) stack = applied s n f i d.0 d.1 stack
 
 abbrev pub branched_to : Program → ℕ → Function → ℕ → Option Signature → ℕ → List ℕ → Tried (List (Arrow (List ℕ)))
-branched_to s n f i none b stack = refused (refusal 8 n i)
-branched_to s n f i (some d) b stack = branched s n f i d.1 d.0 b stack
+branched_to s n f i None b stack = refused (refusal 8 n i)
+branched_to s n f i (Some d) b stack = branched s n f i d.1 d.0 b stack

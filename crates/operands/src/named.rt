@@ -1,6 +1,6 @@
 // A build, a call or a branch, with the signature that it names.
 ghost use Rattle.std.specs.Prelude.{List, ℕ, ◌≤◌};
-ghost use Rattle.std.proofs.Math.Option.{Option};
+ghost use Rattle.std.specs.Prelude.{Option};
 ghost use Rattle.rules.specs.Program.{Function, Program};
 ghost use Rattle.operands.specs.Operands.{stack_of, InBounds, TypeSays, Signature, Finds, applied_to, branched_to};
 

@@ -2,7 +2,7 @@
 #![tactic(auto)]
 
 ghost use Rattle.std.specs.Prelude.{◌≡◌, length};
-ghost use Rattle.rules.specs.Answers.{told_length, length_of};
+ghost use Rattle.rules.specs.Answers.{told, length_of};
 ghost use Rattle.rules.specs.Container.{pack as pack_of, unpack as unpack_of};
 ghost use Rattle.rules.specs.Memory.{pack_leaves, unpack_leaves};
 
@@ -13,7 +13,7 @@ mod writing; // writing.rt: writing blocks
 
 // A payload packed into blocks at the output's front.
 pub fn pack(payload: &[u8], out: &mut [u8]) -> Length
-    ensures { (told_length result ≡ length_of (pack_of payload.now (length out.old)))
+    ensures { (told result ≡ length_of (pack_of payload.now (length out.old)))
         × (out.new ≡ pack_leaves payload.now out.old) }
 {
     let n = payload.len();
@@ -34,7 +34,7 @@ pub fn pack(payload: &[u8], out: &mut [u8]) -> Length
 
 // The payload of a file's blocks at the output's front.
 pub fn unpack(file: &[u8], out: &mut [u8]) -> Length
-    ensures { (told_length result ≡ length_of (unpack_of file.now (length out.old)))
+    ensures { (told result ≡ length_of (unpack_of file.now (length out.old)))
         × (out.new ≡ unpack_leaves file.now out.old) }
 {
     let verified = blocks::verify(file);

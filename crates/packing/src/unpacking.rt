@@ -1,6 +1,6 @@
 // Writing the payload of verified blocks to an output.
 ghost use Rattle.std.specs.Prelude.{◌≡◌, ◌≤◌, length};
-ghost use Rattle.rules.specs.Answers.{told_length, length_of};
+ghost use Rattle.rules.specs.Answers.{told, length_of};
 ghost use Rattle.rules.specs.Container.{payload, unpack as unpack_of};
 ghost use Rattle.rules.specs.Memory.{front_written, unpack_leaves};
 ghost use Rattle.rules.specs.Established.{Measured};
@@ -22,7 +22,7 @@ fn copy_payload(file: &[u8], n: usize, out: &mut [u8])
 // The payload's n bytes, if the output has room for them.
 pub fn unpack_verified(file: &[u8], n: usize, out: &mut [u8]) -> Length
     requires { Measured file.now n }
-    ensures { (told_length result ≡ length_of (unpack_of file.now (length out.old)))
+    ensures { (told result ≡ length_of (unpack_of file.now (length out.old)))
         × (out.new ≡ unpack_leaves file.now out.old) }
 {
     if out.len() < n {

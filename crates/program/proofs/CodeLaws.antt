@@ -1,7 +1,7 @@
 -- A function's code in the payload, as the passes read it: an instruction at each offset, and a test of each.
 use mathlib.Core.Path.{◌≡◌, refl, ap, ◌∙◌}
 use mathlib.Core.List.{List}
-use mathlib.Core.Option.{Option, some}
+use Rattle.std.specs.Prelude.{Option, Some}
 use Prim.Native.Nat.{ℕ, suc, ◌+◌, ◌≤◌, ◌<◌}
 use native.Mathlib.Omega.{arith}
 use native.Mathlib.Nat.{zero-add}
@@ -56,7 +56,7 @@ module _ {bytes : List ℕ} {at : ℕ} {c : Code} (t : CodeThere bytes at c) whe
   code_length = ap length code_is ∙ numbered_length (code_at bytes c.base) c.last 0
 
   -- instruction k + 1 of the function, and a test of each with the state there
-  pub code_slot : (k : ℕ) → k < c.last → slot (suc k) (function_of bytes at).code ≡ some (code_at bytes c.base k)
+  pub code_slot : (k : ℕ) → k < c.last → slot (suc k) (function_of bytes at).code ≡ Some (code_at bytes c.base k)
   code_slot k h = rw code_is (numbered_at (code_at bytes c.base) c.last 0 k h ∙ rw (zero-add k))
 
   pub code_along : {S : Type 0} (rule : ℕ → Instruction → S → Tried (List (Arrow S))) (roots : ℕ → Option S)

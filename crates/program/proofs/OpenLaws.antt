@@ -18,7 +18,7 @@ use Rattle.rules.specs.declared.answers.Checked.TheVariants.{Right, Refused}
 use Rattle.rules.specs.declared.records.Header.{Header}
 use Rattle.rules.specs.declared.records.HeadRecord.{HeadRecord}
 use Rattle.rules.specs.Base.{refusal, refused, ◌>>=◌, Check, passed, require, for_each, within, byte_at, word_at}
-use Rattle.rules.specs.Answers.{refusal_of, told_check}
+use Rattle.rules.specs.Answers.{refusal_of, told}
 use Rattle.rules.specs.Container.{payload}
 use Rattle.rules.specs.Records.{header_at, head_at, alternative_at, header_right, head_right, alternative_right, constructor_offset}
 use Rattle.rules.specs.Records.{alternative_offset, instruction_offset, code_offset, behind, head_offset, record_right, constructor_check}
@@ -73,7 +73,7 @@ Misplaced q checked end = (checked ≡ Refused q) × (end ≡ 0)
 placed_refused : (p : List ℕ) (at : ℕ) {q : Reason} {checked : Checked} {end : ℕ} → function_right p at ≡ refused (refusal_of q)
     → Misplaced q checked end → FunctionRecordsRight p at checked end
 placed_refused p at e a =
-    record { says = ap told_check a.0 ∙ sym e; small = omega (arith, a.1); behind = λ r. refused_right (sym a.0 ∙ r) }
+    record { says = ap told a.0 ∙ sym e; small = omega (arith, a.1); behind = λ r. refused_right (sym a.0 ∙ r) }
 
 module _ {file : List ℕ} {n : ℕ} (o : Measured file n) (at : ℕ) where
   pub placed_cut : {checked : Checked} {end : ℕ} → n < at + 10 → Misplaced (BadRecord at) checked end
@@ -106,7 +106,7 @@ module _ {file : List ℕ} {n : ℕ} (o : Measured file n) (at : ℕ) where
       pub placed_code : {code : Checked} {k base end : ℕ}
           → alternatives_check (payload file) at h.declaration.arity h.alternatives ≡ passed
           → k ≡ h.alternatives → base ≡ alternative_offset at k → end ≡ instruction_offset base h.instructions
-          → told_check code ≡ for_each (instruction_check (payload file) base) 0 h.instructions → end ≤ 400000
+          → told code ≡ for_each (instruction_check (payload file) base) 0 h.instructions → end ≤ 400000
           → FunctionRecordsRight (payload file) at code end
       placed_code e ek eb ee says small =
           let b = eb ∙ ap (alternative_offset at) ek in
@@ -142,7 +142,7 @@ scan_first e l h = record { passing = pass_first; here = e; small = l; long = h;
 
 module _ {p : List ℕ} {m g at : ℕ} {heads : List ℕ} (s : Scanned p m g at heads) where
   module _ (h : g < m) {r : Checked} {end : ℕ} (f : FunctionRecordsRight p at r end) where
-    one_says : {t : Checked} → r ≡ t → function_check p g ≡ told_check t
+    one_says : {t : Checked} → r ≡ t → function_check p g ≡ told t
     one_says q = told_as (f.says ∙ ap (function_right p) s.here) q
 
     pub scan_stop : {q : Reason} (heads' : List ℕ) (end' : ℕ) → r ≡ Refused q → FunctionsRight p m (Refused q) heads' end'
@@ -192,7 +192,7 @@ few_constructors h e =
 
 opened_refused : {file : List ℕ} {q : Reason} {r : Checked} (l : Layout) → records_right (payload file) ≡ refused (refusal_of q)
     → r ≡ Refused q → OpenedRight file r l
-opened_refused l e q = record { says = ap told_check q ∙ sym e; program = λ e'. refused_right (sym q ∙ e') }
+opened_refused l e q = record { says = ap told q ∙ sym e; program = λ e'. refused_right (sym q ∙ e') }
 
 module _ {file : List ℕ} {n : ℕ} (o : Measured file n) where
   pub open_cut : {r : Checked} {l : Layout} → n < 4 → r ≡ Refused (BadRecord 0) → OpenedRight file r l

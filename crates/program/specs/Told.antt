@@ -4,7 +4,7 @@ use Rattle.rules.specs.declared.records.Header.{Header}
 use Rattle.rules.specs.declared.answers.Checked.{Checked}
 use Rattle.rules.specs.declared.answers.Checked.TheVariants.{Right}
 use Rattle.rules.specs.Base.{for_each}
-use Rattle.rules.specs.Answers.{told_check}
+use Rattle.rules.specs.Answers.{told}
 use Rattle.rules.specs.Container.{payload}
 use Rattle.rules.specs.Records.{header_at, header_right, head_offset, function_right, records_right, behind as behind_of}
 use Rattle.rules.specs.Established.{Measured, LaidOut}
@@ -12,7 +12,7 @@ use Rattle.program.specs.declared.Layout.{Layout}
 
 -- the function at an offset: whether its records are right, and then the offset behind it; that offset is small, so that the next ones fit
 pub record FunctionRecordsRight (bytes : List ℕ) (at : ℕ) (checked : Checked) (end : ℕ) : Type 0 where
-  pub says : told_check checked ≡ function_right bytes at
+  pub says : told checked ≡ function_right bytes at
   pub small : end ≤ 400000
   pub behind : checked ≡ Right → end ≡ behind_of bytes at
 
@@ -23,7 +23,7 @@ pub record HeadsRight (bytes : List ℕ) (m : ℕ) (heads : List ℕ) (end : ℕ
 
 -- m functions: whether their records are right, and then where they stand
 pub record FunctionsRight (bytes : List ℕ) (m : ℕ) (checked : Checked) (heads : List ℕ) (end : ℕ) : Type 0 where
-  pub says : told_check checked ≡ for_each (λ g. function_right bytes (head_offset bytes g)) 0 m
+  pub says : told checked ≡ for_each (λ g. function_right bytes (head_offset bytes g)) 0 m
   pub table : checked ≡ Right → HeadsRight bytes m heads end
 
 -- verified blocks whose header was read, and is right
@@ -35,5 +35,5 @@ pub record HeaderRead (file : List ℕ) (n : ℕ) (h : Header) : Type 0 where
 
 -- number 4 over verified blocks, and where it holds the layout
 pub record OpenedRight (file : List ℕ) (checked : Checked) (layout : Layout) : Type 0 where
-  pub says : told_check checked ≡ records_right (payload file)
+  pub says : told checked ≡ records_right (payload file)
   pub program : checked ≡ Right → LaidOut file layout.header layout.heads

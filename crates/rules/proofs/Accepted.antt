@@ -1,7 +1,7 @@
 -- A program that passes the check: its type and shape tables hold of every instruction at once.
 use mathlib.Core.Path.{◌≡◌, refl, sym, ap, ◌∙◌}
 use mathlib.Core.List.{List, ◌∷◌}
-use mathlib.Core.Option.{some}
+use Rattle.std.specs.Prelude.{Some}
 use mathlib.Core.Bool.{Bool, true, false, ◌&&◌, ◌||◌}
 use Prim.Native.Nat.{ℕ, zero, suc, ◌≤◌}
 use native.Mathlib.Omega.{arith}
@@ -55,7 +55,7 @@ checked_parts bytes s e =
     rw (← same) (record { reads = d.1; declarations = r₅.1; bounds = r₆.1; flow = r₇.1; types = r₈.1; shapes = r₉.1 })
 
 -- the height stays at most 16 at every state
-pub low_states : (s : Program) (n : ℕ) (f : Function) → length f.parameters ≤ 16 → (i : ℕ) (ts : List ℕ) → types_at s n f i ≡ some ts
+pub low_states : (s : Program) (n : ℕ) (f : Function) → length f.parameters ≤ 16 → (i : ℕ) (ts : List ℕ) → types_at s n f i ≡ Some ts
     → length ts ≤ 16
 low_states s n f few i ts h =
     state_all (type_rule s n f) (root_at 1 f.parameters) f.code (λ _ x. Low x)
@@ -63,7 +63,7 @@ low_states s n f few i ts h =
     (λ i ins c x e M r l. type_low s n f i ins x M r l) i ts h
 
 -- every shape has the function's own bound
-pub own_bounds : (s : Program) (n : ℕ) (f : Function) (i : ℕ) (x : Shape) → shape_at s n f i ≡ some x → x.bound ≡ f.bound
+pub own_bounds : (s : Program) (n : ℕ) (f : Function) (i : ℕ) (x : Shape) → shape_at s n f i ≡ Some x → x.bound ≡ f.bound
 unfolding start_shape
 own_bounds s n f i x h =
     state_all (shape_rule s n f) (root_at 1 (start_shape f)) f.code (λ _ x. x.bound ≡ f.bound)
@@ -73,7 +73,7 @@ own_bounds s n f i x h =
 -- a function whose flow is right
 pub record FlowsRightly (n : ℕ) (f : Function) : Type 0 where
   pub tree : Tree f.code
-  pub each : (i : ℕ) (ins : Instruction) → slot i f.code ≡ some ins → flow_rule f.code n i ins (past_at f.code i) ≡ passed
+  pub each : (i : ℕ) (ins : Instruction) → slot i f.code ≡ Some ins → flow_rule f.code n i ins (past_at f.code i) ≡ passed
 
 pub flows_rightly : (n : ℕ) (f : Function) → 1 ≤ length f.code → flow_of n f ≡ passed → FlowsRightly n f
 unfolding flow_of
@@ -86,14 +86,14 @@ flows_rightly n f h e = record {
   each = every;
 }
   where
-    every : (i : ℕ) (ins : Instruction) → slot i f.code ≡ some ins → flow_rule f.code n i ins (past_at f.code i) ≡ passed
+    every : (i : ℕ) (ins : Instruction) → slot i f.code ≡ Some ins → flow_rule f.code n i ins (past_at f.code i) ≡ passed
     every = (along_passed passing (root_at 1 false) f.code (flow_rule f.code n)).0 e
 
-    right : (i : ℕ) (ins : Instruction) → slot i f.code ≡ some ins → (2 ≤ i → arrivals f.code i ≡ 1)
+    right : (i : ℕ) (ins : Instruction) → slot i f.code ≡ Some ins → (2 ≤ i → arrivals f.code i ≡ 1)
         × (leaves_right (length f.code) i ins (or_else (past_at f.code i) false) ≡ true)
     right i ins c = flow_found f.code n i ins (past_at f.code i) (every i ins c)
 
-    there_is : (j : ℕ) → 1 ≤ j → j ≤ length f.code → (ins : Instruction) × (slot j f.code ≡ some ins)
+    there_is : (j : ℕ) → 1 ≤ j → j ≤ length f.code → (ins : Instruction) × (slot j f.code ≡ Some ins)
     there_is j lo hi = slot_there f.code j lo hi
 
 -- the states of a rule that passes hold of every instruction at once
@@ -107,7 +107,7 @@ states_stand rule x₁ code tree among e i x h =
 
 -- where 4, 7 and 8 hold
 module _ (bytes : List ℕ) {s : Program} (reads : decode bytes ≡ found s) (flow : flow_right s ≡ passed) (types : types_right s ≡ passed)
-    (n : ℕ) (f : Function) (e : function s n ≡ some f) where
+    (n : ℕ) (f : Function) (e : function s n ≡ Some f) where
   function_reads : DecodedFunction bytes f
   function_reads = all_at n (decoded bytes reads).0 e
 
@@ -124,14 +124,14 @@ module _ (bytes : List ℕ) {s : Program} (reads : decode bytes ≡ found s) (fl
   }
 
 module _ {bytes : List ℕ} {s : Program} (P : Passed bytes s) where
-  pub decoded_function : (n : ℕ) (f : Function) → function s n ≡ some f → DecodedFunction (payload bytes) f
+  pub decoded_function : (n : ℕ) (f : Function) → function s n ≡ Some f → DecodedFunction (payload bytes) f
   decoded_function n f e = all_at n (decoded (payload bytes) P.reads).0 e
 
-  pub decoded_constructor : (c : ℕ) (k : Constructor) → constructor s c ≡ some k → DecodedConstructor (payload bytes) k
+  pub decoded_constructor : (c : ℕ) (k : Constructor) → constructor s c ≡ Some k → DecodedConstructor (payload bytes) k
   decoded_constructor c k e = all_at c (decoded (payload bytes) P.reads).1 e
 
   -- a constructor weighs nothing just where it has no arguments
-  pub weight_right_lem : (c : ℕ) (k : Constructor) → constructor s c ≡ some k → weight_right k ≡ true
+  pub weight_right_lem : (c : ℕ) (k : Constructor) → constructor s c ≡ Some k → weight_right k ≡ true
   unfolding declarations_right constructor_rule
   weight_right_lem c k e =
       let d = bind_found (each (constructor_rule s.types) 0 s.constructors) _ P.declarations in
@@ -150,13 +150,13 @@ module _ {bytes : List ℕ} {s : Program} (P : Passed bytes s) where
       one zero z h = eqb-true k.weight 0 (or-false (eqb k.weight 0) h)
       one (suc m) z h = absurd (omega arith)
 
-  pub flowing : (n : ℕ) (f : Function) → function s n ≡ some f → FlowsRightly n f
+  pub flowing : (n : ℕ) (f : Function) → function s n ≡ Some f → FlowsRightly n f
   flowing n f e = function_flows (payload bytes) P.reads P.flow P.types n f e
 
-  pub types_accepted : (n : ℕ) (f : Function) → function s n ≡ some f → TypedFn s n f (types_at s n f)
+  pub types_accepted : (n : ℕ) (f : Function) → function s n ≡ Some f → TypedFn s n f (types_at s n f)
   types_accepted n f e = types_stand (payload bytes) P.reads P.flow P.types n f e
 
-  pub sizes_accepted : (n : ℕ) (f : Function) → function s n ≡ some f → SizedFn s n f (shape_at s n f)
+  pub sizes_accepted : (n : ℕ) (f : Function) → function s n ≡ Some f → SizedFn s n f (shape_at s n f)
   unfolding sizes_right sizes_of
   sizes_accepted n f e = record {
     few = le_trans (decoded_function n f e).few (omega arith);
@@ -166,5 +166,5 @@ module _ {bytes : List ℕ} {s : Program} (P : Passed bytes s) where
     shape_own = own_bounds s n f;
   }
 
-  pub types_low : (n : ℕ) (f : Function) → function s n ≡ some f → (i : ℕ) (ts : List ℕ) → types_at s n f i ≡ some ts → length ts ≤ 16
+  pub types_low : (n : ℕ) (f : Function) → function s n ≡ Some f → (i : ℕ) (ts : List ℕ) → types_at s n f i ≡ Some ts → length ts ≤ 16
   types_low n f e i ts h = low_states s n f (le_trans (decoded_function n f e).few (omega arith)) i ts h

@@ -1,13 +1,13 @@
 -- The argument check answers as its rule in document 01's words says: it reads on while all is right, and stops where something is wrong.
 use mathlib.Core.Path.{◌≡◌, refl, sym, ap, ◌∙◌}
 use mathlib.Core.List.{List, [], ◌∷◌, ◌++◌, append-nil, append_assoc}
-use mathlib.Core.Option.{Option, none, some}
+use Rattle.std.specs.Prelude.{Option, None, Some, slice_get}
 use mathlib.Core.Bool.{Bool, true, false}
 use mathlib.Core.Logic.{◌⊎◌, inl, inr}
 use Prim.Native.Nat.{ℕ, zero, suc, ◌+◌, ◌≤◌, ◌<◌}
 use native.Mathlib.Omega.{arith}
 use native.Mathlib.Nat.{add-zero, add-suc, suc-add, zero-add}
-use lib.ListN.{length, take, drop, get_elem?}
+use lib.ListN.{length, take, drop}
 use lib.Seq.{take-length, drop-length, drop-cons}
 use lib.Dec.{leb, eqb}
 use borrow.Author.Tests.{eqb-true, eqb-false, eq-eqb, ne_eqb, leb-true, leb-false, le-leb, lt-leb}
@@ -31,16 +31,16 @@ module _ (s : Program) where
   reads_none : {ts left : List ℕ} → Reads s ts [] left → ts ≡ left
   reads_none no_byte = refl
 
-  reads_byte : {c : ℕ} {ts bytes left : List ℕ} → Reads s ts (c ∷ bytes) left → (k : Constructor) × (constructor s c ≡ some k)
+  reads_byte : {c : ℕ} {ts bytes left : List ℕ} → Reads s ts (c ∷ bytes) left → (k : Constructor) × (constructor s c ≡ Some k)
       × (more : List ℕ) × (ts ≡ k.result ∷ more) × Reads s (k.arguments ++ more) bytes left
   reads_byte (byte {k = k} {ts = more} e r) = (k, e, more, refl, r)
 
-  byte_of : {c t : ℕ} {k : Constructor} {ts bytes left : List ℕ} → constructor s c ≡ some k → k.result ≡ t
+  byte_of : {c t : ℕ} {k : Constructor} {ts bytes left : List ℕ} → constructor s c ≡ Some k → k.result ≡ t
       → Reads s (k.arguments ++ ts) bytes left → Reads s (t ∷ ts) (c ∷ bytes) left
   byte_of e is r = rw (← is) (byte e r)
 
   -- a first byte of known constructor
-  reads_known : {c t : ℕ} {k : Constructor} {ts bytes left : List ℕ} → constructor s c ≡ some k → Reads s (t ∷ ts) (c ∷ bytes) left
+  reads_known : {c t : ℕ} {k : Constructor} {ts bytes left : List ℕ} → constructor s c ≡ Some k → Reads s (t ∷ ts) (c ∷ bytes) left
       → (k.result ≡ t) × Reads s (k.arguments ++ ts) bytes left
   reads_known {t = t} {k} {ts} e r =
       let b = reads_byte r in
@@ -60,7 +60,7 @@ module _ (s : Program) where
   few_none ts bytes j pending lo hi r = absurd (omega arith)
 
   -- a right byte, then more that is right
-  module _ (c t : ℕ) (k : Constructor) (ts bytes : List ℕ) (e : constructor s c ≡ some k) (is : k.result ≡ t)
+  module _ (c t : ℕ) (k : Constructor) (ts bytes : List ℕ) (e : constructor s c ≡ Some k) (is : k.result ≡ t)
       (few : length (k.arguments ++ ts) ≤ 256) where
     few_next : (o : ℕ) → FewPending s (k.arguments ++ ts) bytes o → FewPending s (t ∷ ts) (c ∷ bytes) (suc o)
     few_next o h zero pending lo hi r = absurd (omega arith)
@@ -90,25 +90,25 @@ module _ (s : Program) where
       begin : RightTo s (t ∷ ts) (c ∷ bytes) 0 (t ∷ ts)
       begin = (no_byte, few_none (t ∷ ts) (c ∷ bytes))
 
-      later : (k : Constructor) → constructor s c ≡ some k → k.result ≡ t → length (k.arguments ++ ts) ≤ 256
+      later : (k : Constructor) → constructor s c ≡ Some k → k.result ≡ t → length (k.arguments ++ ts) ≤ 256
           → Judged (k.arguments ++ ts) bytes → Judged (t ∷ ts) (c ∷ bytes)
       later k e is few (inl r) = inl (right_next c t k ts bytes e is few r)
       later k e is few (inr w) = inr (suc w.0, wrong_next c t k ts bytes e is few w.1)
 
-      fits : ((pending : List ℕ) → Judged pending bytes) → (k : Constructor) → constructor s c ≡ some k
+      fits : ((pending : List ℕ) → Judged pending bytes) → (k : Constructor) → constructor s c ≡ Some k
           → (a : Bool) → eqb k.result t ≡ a → (b : Bool) → leb (length (k.arguments ++ ts)) 256 ≡ b → Judged (t ∷ ts) (c ∷ bytes)
       fits ih k e true ea true eb = later k e (eqb-true _ _ ea) (leb-true _ _ eb) (ih (k.arguments ++ ts))
       fits ih k e true ea false eb = inr (0, too_many begin refl e (eqb-true _ _ ea) (leb-false _ _ eb))
       fits ih k e false ea b eb = inr (0, wrong_type begin refl e (eqb-false _ _ ea))
 
       known : ((pending : List ℕ) → Judged pending bytes) → (o : Option Constructor) → constructor s c ≡ o → Judged (t ∷ ts) (c ∷ bytes)
-      known ih none e = inr (0, unknown begin refl e)
-      known ih (some k) e = fits ih k e (eqb k.result t) refl (leb (length (k.arguments ++ ts)) 256) refl
+      known ih None e = inr (0, unknown begin refl e)
+      known ih (Some k) e = fits ih k e (eqb k.result t) refl (leb (length (k.arguments ++ ts)) 256) refl
 
   ---- The check goes on where all is right, and stops at what is wrong
 
   -- a byte that is right, with few types pending after it
-  read_right : (offset c t : ℕ) (k : Constructor) (ts : List ℕ) → constructor s c ≡ some k → k.result ≡ t
+  read_right : (offset c t : ℕ) (k : Constructor) (ts : List ℕ) → constructor s c ≡ Some k → k.result ≡ t
       → length (k.arguments ++ ts) ≤ 256 → read_byte s offset c (t ∷ ts) ≡ found (k.arguments ++ ts)
   unfolding read_byte
   read_right offset c t k ts e is few = rw (e, eq-eqb k.result t is, le-leb (length (k.arguments ++ ts)) 256 few)
@@ -138,7 +138,7 @@ module _ (s : Program) where
   right_passes offset bytes ts r = read_to (length bytes) offset bytes ts [] (omega arith) r ∙ rw drop-length
 
   -- what is behind the bytes before offset o
-  from_byte : (o : ℕ) (bytes : List ℕ) {c : ℕ} → get_elem? bytes o ≡ some c → (o < length bytes) × (drop o bytes ≡ c ∷ drop (suc o) bytes)
+  from_byte : (o : ℕ) (bytes : List ℕ) {c : ℕ} → slice_get bytes o ≡ Some c → (o < length bytes) × (drop o bytes ≡ c ∷ drop (suc o) bytes)
   from_byte o [] e = none_some e
   from_byte zero (x ∷ bytes) e = (omega arith, cc)
   from_byte (suc o) (x ∷ bytes) e = let b = from_byte o bytes e in (omega arith, b.1)

@@ -1,7 +1,7 @@
 -- The check accepts a file just where it obeys every rule, and refuses it with just the number and the places that `Fails` says.
 use mathlib.Core.Path.{◌≡◌, refl, ap, ◌∙◌}
 use mathlib.Core.List.{List}
-use mathlib.Core.Option.{some}
+use Rattle.std.specs.Prelude.{Some}
 use mathlib.Core.Logic.{◌⊎◌, inl, inr}
 use Prim.Native.Nat.{ℕ, ◌≤◌}
 use native.Mathlib.Omega.{arith}
@@ -61,14 +61,14 @@ module _ {file : List ℕ} {s : Program} where
   unfolding decode
   passed_4 u = ((blocks_exact file).0.1 u.blocks, rw ((records_exact (payload file)).0.1 u.records) (ap found u.program))
 
-  function_there : UpTo4 file s → (n : ℕ) (f : Function) → function s n ≡ some f → DecodedFunction (payload file) f
+  function_there : UpTo4 file s → (n : ℕ) (f : Function) → function s n ≡ Some f → DecodedFunction (payload file) f
   function_there u n f e = all_at n (decoded (payload file) (passed_4 u).1).0 e
 
-  few_parameters : UpTo4 file s → (n : ℕ) (f : Function) → function s n ≡ some f → length f.parameters ≤ 16
+  few_parameters : UpTo4 file s → (n : ℕ) (f : Function) → function s n ≡ Some f → length f.parameters ≤ 16
   few_parameters u n f e = le_trans (function_there u n f e).few (omega arith)
 
   -- what 7 leaves of a function for 8, and what both leave for 10 and 9
-  flows : UpTo7 file s → (n : ℕ) (f : Function) → function s n ≡ some f → FlowsRightly n f
+  flows : UpTo7 file s → (n : ℕ) (f : Function) → function s n ≡ Some f → FlowsRightly n f
   flows u n f e =
       flows_rightly n f (function_there u.bounded.declared.read n f e).some_code ((flow_exact n f).0.1 (u.flow n f e))
 
@@ -78,8 +78,8 @@ module _ {file : List ℕ} {s : Program} where
       each_decides (types_of s) 0 s.functions (HasTypes s) (TypesStop s)
       (λ n f e. rw (zero-add n) (types_exact s n f (few_parameters u.bounded.declared.read n f e) (flows u n f e)))
 
-  types_pass : UpTo8 file s → (n : ℕ) (f : Function) → function s n ≡ some f → (i : ℕ) (ins : Instruction) → slot i f.code ≡ some ins
-      → (ts : List ℕ) → types_at s n f i ≡ some ts → (M : List (Arrow (List ℕ))) × (type_rule s n f i ins ts ≡ found M)
+  types_pass : UpTo8 file s → (n : ℕ) (f : Function) → function s n ≡ Some f → (i : ℕ) (ins : Instruction) → slot i f.code ≡ Some ins
+      → (ts : List ℕ) → types_at s n f i ≡ Some ts → (M : List (Arrow (List ℕ))) × (type_rule s n f i ins ts ≡ found M)
   unfolding types_of
   types_pass u n f e i ins c ts h =
       judged_found (type_rule s n f) (root_at 1 f.parameters) f.code

@@ -2,7 +2,7 @@
 -- and stack, and never more cells are in use now than before; so they are short only where they pass the most that can be used now.
 use mathlib.Core.Path.{◌≡◌, refl, sym, ap, ◌∙◌}
 use mathlib.Core.List.{List, [], ◌∷◌}
-use mathlib.Core.Option.{Option, none, some}
+use Rattle.std.specs.Prelude.{Option, None, Some}
 use mathlib.Core.Logic.{◌⊎◌, inl, inr}
 use Prim.Native.Nat.{ℕ, zero, suc, ◌+◌, ◌≤◌, ◌<◌}
 use native.Mathlib.Omega.{arith}
@@ -32,14 +32,14 @@ unfolding cells_loaded_by
 every_byte s [] = refl
 every_byte s (c ∷ bytes) = omega (arith, every_byte s bytes)
 
-pub every_build : (s : Program) (c : ℕ) → cells_taken_by every_one s (some (Build c)) ≡ 1
+pub every_build : (s : Program) (c : ℕ) → cells_taken_by every_one s (Some (Build c)) ≡ 1
 unfolding cells_taken_by
 every_build s c = refl
 
 ---- By any rule
 
 -- where the machine has no step the tables are not asked
-step_stuck : (rule : CellRule) (s : Program) (m : Tables) (st : State) (cells : ℕ) → step s st ≡ none
+step_stuck : (rule : CellRule) (s : Program) (m : Tables) (st : State) (cells : ℕ) → step s st ≡ None
     → step_within_by rule s m st cells ≡ refused (refusal_at 0 st)
 unfolding step_within_by refusal_at
 step_stuck rule s m [] cells e = refl
@@ -50,7 +50,7 @@ builds_none : (rule : CellRule) (s : Program) (st : State) → builds_by rule s 
 unfolding builds_by
 builds_none rule s st = refl
 
-builds_on : (rule : CellRule) (s : Program) (cells steps total k : ℕ) (st next : State) → step s st ≡ some next → suc steps ≤ total
+builds_on : (rule : CellRule) (s : Program) (cells steps total k : ℕ) (st next : State) → step s st ≡ Some next → suc steps ≤ total
     → total ≡ k + steps → (k' : ℕ) × (total ≡ k' + suc steps)
     × (cells + builds_by rule s k st ≡ (cells + takes_by rule s st) + builds_by rule s k' next)
 unfolding builds_by
@@ -73,8 +73,8 @@ module _ (rule : CellRule) (s : Program) (m : Tables) where
   steps_grow zero steps st cells = one (end_of s st) refl
     where
       one : (o : Option (Ending (List ℕ))) → end_of s st ≡ o → steps ≤ (continued_by rule s m zero steps st cells).steps
-      one (some x) e = rw (continued_ended rule s m zero steps st cells e) (omega arith)
-      one none e = rw (continued_spent rule s m steps st cells e) (omega arith)
+      one (Some x) e = rw (continued_ended rule s m zero steps st cells e) (omega arith)
+      one None e = rw (continued_spent rule s m steps st cells e) (omega arith)
   steps_grow (suc left) steps st cells = one (λ p. steps_grow left (suc steps) p.0 p.1) (end_of s st) refl
     where
       Later : Type 0
@@ -83,13 +83,13 @@ module _ (rule : CellRule) (s : Program) (m : Tables) where
       Goal : Type 0
       Goal = steps ≤ (continued_by rule s m (suc left) steps st cells).steps
 
-      two : Later → end_of s st ≡ none → (t : Tried Point) → step_within_by rule s m st cells ≡ t → Goal
+      two : Later → end_of s st ≡ None → (t : Tried Point) → step_within_by rule s m st cells ≡ t → Goal
       two ih e (refused r) h = rw (continued_short rule s m left steps st cells e h) (omega arith)
       two ih e (found p) h = rw (continued_on_lem rule s m left steps st cells e h) (omega (arith, ih p))
 
       one : Later → (o : Option (Ending (List ℕ))) → end_of s st ≡ o → Goal
-      one ih (some x) e = rw (continued_ended rule s m (suc left) steps st cells e) (omega arith)
-      one ih none e = two ih e (step_within_by rule s m st cells) refl
+      one ih (Some x) e = rw (continued_ended rule s m (suc left) steps st cells e) (omega arith)
+      one ih None e = two ih e (step_within_by rule s m st cells) refl
 
   -- past 11 and 12 the tables are asked for the start
   abbrev Loading : ℕ → List ℕ → Type 0
@@ -98,7 +98,7 @@ module _ (rule : CellRule) (s : Program) (m : Tables) where
       (loaded_by rule s m entry bytes ≡ found (start entry (values s bytes)))
       (λ number. loaded_by rule s m entry bytes ≡ refused (refusal number entry 1))
 
-  load_within : (entry : ℕ) (bytes : List ℕ) (f : Function) → function s entry ≡ some f → arguments_right s f bytes ≡ passed
+  load_within : (entry : ℕ) (bytes : List ℕ) (f : Function) → function s entry ≡ Some f → arguments_right s f bytes ≡ passed
       → Loading entry bytes
   load_within entry bytes f e a = one (fits m (start entry (values s bytes)) (cells_loaded_by rule s bytes) entry 1) refl
     where
@@ -127,13 +127,13 @@ gives a r steps n e = (r, ap (λ (x : Outcome). x.ending) e, n)
 module _ (old new : CellRule) (s : Program) (fewer : (n : ℕ) → new.taken n ≤ old.taken n) where
   taken_fewer : (o : Option Instruction) → cells_taken_by new s o ≤ cells_taken_by old s o
   unfolding cells_taken_by
-  taken_fewer none = omega arith
-  taken_fewer (some (Load a)) = omega arith
-  taken_fewer (some (Build c)) = fewer (arity s c)
-  taken_fewer (some (Call g)) = omega arith
-  taken_fewer (some (Branch c b)) = omega arith
-  taken_fewer (some Return) = omega arith
-  taken_fewer (some Stop) = omega arith
+  taken_fewer None = omega arith
+  taken_fewer (Some (Load a)) = omega arith
+  taken_fewer (Some (Build c)) = fewer (arity s c)
+  taken_fewer (Some (Call g)) = omega arith
+  taken_fewer (Some (Branch c b)) = omega arith
+  taken_fewer (Some Return) = omega arith
+  taken_fewer (Some Stop) = omega arith
 
   takes_fewer : (st : State) → takes_by new s st ≤ takes_by old s st
   takes_fewer [] = omega arith
@@ -196,10 +196,10 @@ module _ (old new : CellRule) (s : Program) (fewer : (n : ℕ) → new.taken n �
         one : (o : Option (Ending (List ℕ))) → end_of s st ≡ o
             → Compared new.most (cells' + builds_by new s k st) (continued_by new s w zero steps st cells')
             (continued_by old s m zero steps st cells)
-        one (some x) e =
+        one (Some x) e =
             ends_alike steps st cells' k _ _ can took (continued_ended new s w zero steps st cells' e)
             (continued_ended old s m zero steps st cells e)
-        one none e =
+        one None e =
             ends_alike steps st cells' k _ _ can took (continued_spent new s w steps st cells' e) (continued_spent old s m steps st cells e)
     continued_compared (suc left) steps st cells cells' k le can but took =
         one (λ next c c' k'. continued_compared left (suc steps) next c c' k') (end_of s st) refl
@@ -220,7 +220,7 @@ module _ (old new : CellRule) (s : Program) (fewer : (n : ℕ) → new.taken n �
             (λ number. step_within_by new s w st cells' ≡ refused (refusal_at number st))
 
         -- where there was room the run took this step, and k' more behind it
-        behind : end_of s st ≡ none → (next : State) → step s st ≡ some next
+        behind : end_of s st ≡ None → (next : State) → step s st ≡ Some next
             → step_within_by old s m st cells ≡ found (next, cells + takes_by old s st) → (k' : ℕ)
             × ((continued_by old s m left (suc steps) next (cells + takes_by old s st)).steps ≡ k' + suc steps)
             × (cells' + builds_by new s k st ≡ (cells' + takes_by new s st) + builds_by new s k' next)
@@ -228,7 +228,7 @@ module _ (old new : CellRule) (s : Program) (fewer : (n : ℕ) → new.taken n �
             builds_on new s cells' steps _ k st next h (steps_grow old s m left (suc steps) next _)
             (rw (continued_on_lem old s m left steps st cells e p) at took)
 
-        three : Later → end_of s st ≡ none → (next : State) → step s st ≡ some next → Stepped next → Goal
+        three : Later → end_of s st ≡ None → (next : State) → step s st ≡ Some next → Stepped next → Goal
         three ih e next h (fit p p' can') =
             let (k', took', need) = behind e next h p in
             let on = continued_on_lem old s m left steps st cells e p in
@@ -244,20 +244,20 @@ module _ (old new : CellRule) (s : Program) (fewer : (n : ℕ) → new.taken n �
             ends_alike steps st cells' k _ _ can took (continued_short new s w left steps st cells' e q')
             (continued_short old s m left steps st cells e q)
 
-        two : Later → end_of s st ≡ none → (o : Option State) → step s st ≡ o → Goal
-        two ih e none h =
+        two : Later → end_of s st ≡ None → (o : Option State) → step s st ≡ o → Goal
+        two ih e None h =
             ends_alike steps st cells' k _ _ can took
             (continued_short new s w left steps st cells' e (step_stuck new s w st cells' h))
             (continued_short old s m left steps st cells e (step_stuck old s m st cells h))
-        two ih e (some next) h =
+        two ih e (Some next) h =
             three ih e next h (both next (cells + takes_by old s st) (cells' + takes_by new s st) (omega (arith, takes_fewer st))
             (step_within_lem old s m st cells next h) (step_within_lem new s w st cells' next h))
 
         one : Later → (o : Option (Ending (List ℕ))) → end_of s st ≡ o → Goal
-        one ih (some x) e =
+        one ih (Some x) e =
             ends_alike steps st cells' k _ _ can took (continued_ended new s w (suc left) steps st cells' e)
             (continued_ended old s m (suc left) steps st cells e)
-        one ih none e = two ih e (step s st) refl
+        one ih None e = two ih e (step s st) refl
 
     -- from the start
     started_compared : (budget entry : ℕ) (bytes : List ℕ) → (Gives15 (started_by old s m budget entry bytes) → ⊥)
@@ -292,15 +292,15 @@ module _ (old new : CellRule) (s : Program) (fewer : (n : ℕ) → new.taken n �
             absurd (but (gives _ (refusal 15 entry 1) 0 refl (started_refused old s m budget entry bytes q)))
         three (short_alike number q q') = alike q' q
 
-        two : (f : Function) → function s entry ≡ some f → (t : Check) → arguments_right s f bytes ≡ t → Goal
+        two : (f : Function) → function s entry ≡ Some f → (t : Check) → arguments_right s f bytes ≡ t → Goal
         two f e (refused r) a = alike (load_bad_arguments new s w entry bytes f e a) (load_bad_arguments old s m entry bytes f e a)
         two f e (found u) a =
             three (both begin (cells_loaded_by old s bytes) (cells_loaded_by new s bytes) (loads_fewer bytes)
             (load_within old s m entry bytes f e a) (load_within new s w entry bytes f e a))
 
         one : (o : Option Function) → function s entry ≡ o → Goal
-        one none e = alike (load_no_entry new s w entry bytes e) (load_no_entry old s m entry bytes e)
-        one (some f) e = two f e (arguments_right s f bytes) refl
+        one None e = alike (load_no_entry new s w entry bytes e) (load_no_entry old s m entry bytes e)
+        one (Some f) e = two f e (arguments_right s f bytes) refl
 
 ---- The whole run
 

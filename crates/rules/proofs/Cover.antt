@@ -2,7 +2,7 @@
 use Rattle.std.specs.Prelude.{if◌then◌else◌}
 use mathlib.Core.Path.{◌≡◌, refl, sym, ap, ◌∙◌}
 use mathlib.Core.List.{List, [], ◌∷◌, map}
-use mathlib.Core.Option.{Option, none, some}
+use Rattle.std.specs.Prelude.{Option, None, Some}
 use mathlib.Core.Bool.{Bool, true, false}
 use Prim.Native.Nat.{ℕ, zero, suc, ◌+◌, ◌*◌, ◌-◌, ◌≤◌, ◌<◌, zero-le}
 use native.Mathlib.Omega.{arith}
@@ -34,7 +34,7 @@ use Rattle.rules.proofs.Measures.{substituted_wide, form_wide, made_most}
 abbrev Small : ℕ → Alternative → Type 0
 Small K a = All (λ c. c ≤ 15) a.coefficients × (a.constant ≤ K)
 
-module _ (s : Program) (heavy : (c : ℕ) (k : Constructor) → constructor s c ≡ some k → k.weight ≤ 255 * length k.arguments) where
+module _ (s : Program) (heavy : (c : ℕ) (k : Constructor) → constructor s c ≡ Some k → k.weight ≤ 255 * length k.arguments) where
   -- what a bound at tame shapes covers
   covered_small : (bound : List Alternative) (x : Shape) → Tame s heavy x → All (Small 65535) bound → (form : Form)
       → covers (into_bound bound (map (form_of s) x.parameters)) form ≡ true → All (Small 126735) form
@@ -116,8 +116,8 @@ module _ {bytes : List ℕ} {s : Program} (P : Passed bytes s) (small : All (λ 
       ones (suc n) = ◌l∷◌ {x = 1} (omega arith) (ones n)
 
       one : (o : Option Constructor) → constructor s c ≡ o → All (Fits16 900 7669635) (built_form o (forms_of s (from_list es)))
-      one none e = l[]
-      one (some k) e =
+      one None e = l[]
+      one (Some k) e =
           made_fits s (replicate (length k.arguments) 1) k.weight (ones (length k.arguments))
           (le_trans (weight_most P small c k e) (omega arith)) (le_trans (le_of_eq (forms_length s es)) few)
           (forms_of_lem s (all_map (λ e q. all_map (λ a z. z.0) q) h)) (forms_of_lem s (all_map (λ e q. all_map (λ a z. (z.1, z.2)) q) h))
@@ -131,8 +131,8 @@ module _ {bytes : List ℕ} {s : Program} (P : Passed bytes s) (small : All (λ 
   symbol_fits (called g) es few h = one (function s g) refl
     where
       one : (o : Option Function) → function s g ≡ o → All (Fits16 900 7669635) (called_form o (forms_of s (from_list es)))
-      one none e = l[]
-      one (some f) e =
+      one None e = l[]
+      one (Some f) e =
           all_flat_map (λ a. substituted a.coefficients a.constant (forms_of s (from_list es)))
           (λ a (q : Small 65535 a). made_fits s a.coefficients a.constant q.0 q.1 (le_trans (le_of_eq (forms_length s es)) few)
           (forms_of_lem s (all_map (λ e q. all_map (λ a z. z.0) q) h)) (forms_of_lem s (all_map (λ e q. all_map (λ a z. (z.1, z.2)) q) h)))
@@ -152,7 +152,7 @@ cover_fact bytes s small e n f at_f i x h = (entries, makes)
         (form_of s z) c)))
         x.stack (rw (own_bounds s n f i x h) at (shape_covered s n f i r.0 x r.3).0)
 
-    makes : (k : ℕ) (parts : List Expression × List Expression) → k ≤ 4 → split k x.stack ≡ some parts → (symbol : Symbol)
+    makes : (k : ℕ) (parts : List Expression × List Expression) → k ≤ 4 → split k x.stack ≡ Some parts → (symbol : Symbol)
         → All (Fits16 900 7669635) (form_of s (made symbol parts.1))
     makes k parts few cut symbol =
         let r = split_parts k x.stack cut in

@@ -1,13 +1,13 @@
 -- The passes for 5 and 6 agree with document 01's words for them on every program.
 use mathlib.Core.Path.{◌≡◌, refl, ◌∙◌}
 use mathlib.Core.List.{List, [], ◌∷◌}
-use mathlib.Core.Option.{some}
+use Rattle.std.specs.Prelude.{Some, slice_get}
 use mathlib.Core.Bool.{true, ◌&&◌, ◌||◌}
 use mathlib.Core.Logic.{◌↔◌}
 use Prim.Native.Nat.{ℕ, zero, suc, ◌+◌, ◌-◌, ◌≤◌, ◌<◌}
 use native.Mathlib.Omega.{arith}
 use native.Mathlib.Nat.{zero-add, not-suc-le-zero}
-use lib.ListN.{length, get_or, get_elem?}
+use lib.ListN.{length, get_or}
 use lib.Dec.{ltb, eqb-suc-zero}
 use borrow.Author.Tests.{ltb-true, lt-ltb}
 use Rattle.rules.specs.declared.records.Alternative.{Alternative}
@@ -76,11 +76,11 @@ declarations_exact s = ((holds, passes), λ r. (fails r, refuses r))
     signatures : Check
     signatures = each (signature_rule s.types) 0 s.functions
 
-    C : Decides constructors ((c : ℕ) (k : Constructor) → constructor s c ≡ some k → ConstructorOk s.types k)
+    C : Decides constructors ((c : ℕ) (k : Constructor) → constructor s c ≡ Some k → ConstructorOk s.types k)
         (EachFails s.constructors (λ c k. ConstructorOk s.types k) (ConstructorFails s.types))
     C = each_decides (constructor_rule s.types) 0 s.constructors _ _ (λ c k _. constructor_decides s.types c k)
 
-    S : Decides signatures ((g : ℕ) (f : Function) → function s g ≡ some f → SignatureOk s.types f)
+    S : Decides signatures ((g : ℕ) (f : Function) → function s g ≡ Some f → SignatureOk s.types f)
         (EachFails s.functions (λ g f. SignatureOk s.types f) (SignatureFails s.types))
     S = each_decides (signature_rule s.types) 0 s.functions _ _ (λ g f _. signature_decides s.types g f)
 
@@ -112,7 +112,7 @@ declarations_exact s = ((holds, passes), λ r. (fails r, refuses r))
 ---- 6
 
 -- a coefficient that is read as 1 or more is there
-get_d_there : (cs : List ℕ) (k : ℕ) → ltb 0 (get_or cs k 0) ≡ true ↔ ((m : ℕ) × (get_elem? cs k ≡ some m) × (1 ≤ m))
+get_d_there : (cs : List ℕ) (k : ℕ) → ltb 0 (get_or cs k 0) ≡ true ↔ ((m : ℕ) × (slice_get cs k ≡ Some m) × (1 ≤ m))
 get_d_there [] k = ((λ e. absurd (false_true e)), λ h. none_some h.1)
 get_d_there (c ∷ cs) zero = (
   (λ e. (c, refl, ltb-true 0 c e)),
@@ -171,7 +171,7 @@ module _ (g : ℕ) (f : Function) where
     ),
   )
     where
-      E : Decides (each (argument_rule g f) 1 f.parameters) ((k t : ℕ) → get_elem? f.parameters k ≡ some t → Counts f.bound (1 + k))
+      E : Decides (each (argument_rule g f) 1 f.parameters) ((k t : ℕ) → slice_get f.parameters k ≡ Some t → Counts f.bound (1 + k))
           (EachFails f.parameters (λ k t. Counts f.bound (1 + k)) ArgumentFails)
       E = each_decides (argument_rule g f) 1 f.parameters _ _ (λ k t _. argument_decides k t)
 
@@ -191,7 +191,7 @@ bounds_exact s = (
   ),
 )
   where
-    B : Decides (each bound_rule 0 s.functions) ((g : ℕ) (f : Function) → function s g ≡ some f → AllCount f)
+    B : Decides (each bound_rule 0 s.functions) ((g : ℕ) (f : Function) → function s g ≡ Some f → AllCount f)
         (EachFails s.functions (λ g f. AllCount f) BoundFails)
     B = each_decides bound_rule 0 s.functions (λ g f. AllCount f) BoundFails (λ g f _. bound_decides g f)
 

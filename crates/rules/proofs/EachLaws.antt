@@ -1,13 +1,12 @@
 -- A rule for each element of a list: it passes where every one does, and its refusal is the first.
 use mathlib.Core.Path.{◌≡◌, refl, sym, ap}
 use mathlib.Core.List.{List, [], ◌∷◌}
-use mathlib.Core.Option.{Option, some}
+use Rattle.std.specs.Prelude.{Option, Some, slice_get}
 use mathlib.Core.Bool.{Bool, true, false}
 use mathlib.Core.Logic.{◌↔◌}
 use Prim.Native.Nat.{ℕ, zero, suc, ◌+◌, ◌<◌}
 use native.Mathlib.Omega.{arith}
 use native.Mathlib.Nat.{add-zero, add-suc, suc-add, zero-add}
-use lib.ListN.{get_elem?}
 use lib.Dec.{eqb}
 use borrow.Author.Tests.{eqb-true, eqb-false}
 use Rattle.rules.specs.Base.{Refusal, refused, Check, passed, each}
@@ -18,18 +17,18 @@ use Rattle.rules.proofs.TriedLaws.{bind_found, refused_found, Stops, at_once, af
 -- an element is refused, and those before it pass. `look` finds an element by its number
 pub record StopsAt {A : Type 0} (look : ℕ → Option A) (rule : ℕ → A → Check) (r : Refusal) (n : ℕ) : Type 0 where
   pub it : A
-  pub there : look n ≡ some it
+  pub there : look n ≡ Some it
   pub refuses : rule n it ≡ refused r
-  pub before : (m : ℕ) (y : A) → m < n → look m ≡ some y → rule m y ≡ passed
+  pub before : (m : ℕ) (y : A) → m < n → look m ≡ Some y → rule m y ≡ passed
 
 module _ {A : Type 0} (rule : ℕ → A → Check) where
-  pub each_every : (k : ℕ) (xs : List A) → each rule k xs ≡ passed → (d : ℕ) {x : A} → get_elem? xs d ≡ some x → rule (k + d) x ≡ passed
+  pub each_every : (k : ℕ) (xs : List A) → each rule k xs ≡ passed → (d : ℕ) {x : A} → slice_get xs d ≡ Some x → rule (k + d) x ≡ passed
   unfolding each
   each_every k [] e d h = none_some h
   each_every k (y ∷ xs) e zero h = rw (add-zero k, ← some_inj h) (bind_found (rule k y) _ e).1
   each_every k (y ∷ xs) e (suc d) h = rw (add-suc k d, ← suc-add k d) (each_every (suc k) xs (bind_found (rule k y) _ e).2 d h)
 
-  pub each_passes : (k : ℕ) (xs : List A) → ((d : ℕ) (x : A) → get_elem? xs d ≡ some x → rule (k + d) x ≡ passed) → each rule k xs ≡ passed
+  pub each_passes : (k : ℕ) (xs : List A) → ((d : ℕ) (x : A) → slice_get xs d ≡ Some x → rule (k + d) x ≡ passed) → each rule k xs ≡ passed
   unfolding each
   each_passes k [] h = refl
   each_passes k (x ∷ xs) h =
@@ -37,13 +36,13 @@ module _ {A : Type 0} (rule : ℕ → A → Check) where
       rw e (each_passes (suc k) xs (λ d y w. rw (suc-add k d, ← add-suc k d) (h (suc d) y w)))
 
   pub each_stops : (k : ℕ) (xs : List A) {r : Refusal} → each rule k xs ≡ refused r
-      → (n : ℕ) × StopsAt (get_elem? xs) (λ d. rule (k + d)) r n
+      → (n : ℕ) × StopsAt (slice_get xs) (λ d. rule (k + d)) r n
   unfolding each
   each_stops k [] e = absurd (refused_found (sym e))
   each_stops k (x ∷ xs) {r} e = one (λ g. each_stops (suc k) xs g) (bind_refused (rule k x) _ e)
     where
-      one : (each rule (suc k) xs ≡ refused r → (n : ℕ) × StopsAt (get_elem? xs) (λ d. rule (suc k + d)) r n)
-          → Stops (rule k x) (λ _. each rule (suc k) xs) r → (n : ℕ) × StopsAt (get_elem? (x ∷ xs)) (λ d. rule (k + d)) r n
+      one : (each rule (suc k) xs ≡ refused r → (n : ℕ) × StopsAt (slice_get xs) (λ d. rule (suc k + d)) r n)
+          → Stops (rule k x) (λ _. each rule (suc k) xs) r → (n : ℕ) × StopsAt (slice_get (x ∷ xs)) (λ d. rule (k + d)) r n
       one ih (at_once h) = (0, record { it = x; there = refl; refuses = rw (add-zero k) h; before = λ m y l e. absurd (omega arith) })
       one ih (after tt h g) =
           let w = ih g in (
@@ -56,12 +55,12 @@ module _ {A : Type 0} (rule : ℕ → A → Check) where
             },
           )
         where
-          earlier : (n : ℕ) → ((m : ℕ) (y : A) → m < n → get_elem? xs m ≡ some y → rule (suc k + m) y ≡ passed) → (m : ℕ) (y : A)
-              → m < suc n → get_elem? (x ∷ xs) m ≡ some y → rule (k + m) y ≡ passed
+          earlier : (n : ℕ) → ((m : ℕ) (y : A) → m < n → slice_get xs m ≡ Some y → rule (suc k + m) y ≡ passed) → (m : ℕ) (y : A)
+              → m < suc n → slice_get (x ∷ xs) m ≡ Some y → rule (k + m) y ≡ passed
           earlier n p zero y l e = rw (add-zero k, ← some_inj e) h
           earlier n p (suc m) y l e = rw (add-suc k m, ← suc-add k m) (p m y (omega arith) e)
 
-  pub each_stopped : (k : ℕ) (xs : List A) {r : Refusal} (n : ℕ) → StopsAt (get_elem? xs) (λ d. rule (k + d)) r n
+  pub each_stopped : (k : ℕ) (xs : List A) {r : Refusal} (n : ℕ) → StopsAt (slice_get xs) (λ d. rule (k + d)) r n
       → each rule k xs ≡ refused r
   unfolding each
   each_stopped k [] n s = none_some s.there
@@ -80,14 +79,14 @@ module _ {A : Type 0} (rule : ℕ → A → Check) where
 ---- Numbered from 0, as functions and constructors are, and from 1, as instructions and arguments are
 
 module _ {A : Type 0} (rule : ℕ → A → Check) (xs : List A) where
-  pub each_from_0 : each rule 0 xs ≡ passed ↔ ((n : ℕ) (x : A) → get_elem? xs n ≡ some x → rule n x ≡ passed)
+  pub each_from_0 : each rule 0 xs ≡ passed ↔ ((n : ℕ) (x : A) → slice_get xs n ≡ Some x → rule n x ≡ passed)
   each_from_0 = (
     λ e n x h. rw (zero-add n) at (each_every rule 0 xs e n h),
     λ h. each_passes rule 0 xs (λ d x e. rw (zero-add d)
         (h d x e)),
   )
 
-  pub stops_from_0 : {r : Refusal} → each rule 0 xs ≡ refused r ↔ (n : ℕ) × StopsAt (get_elem? xs) rule r n
+  pub stops_from_0 : {r : Refusal} → each rule 0 xs ≡ refused r ↔ (n : ℕ) × StopsAt (slice_get xs) rule r n
   stops_from_0 {r} = (
     there_is,
     λ s. each_stopped rule 0 xs s.0 (record {
@@ -98,7 +97,7 @@ module _ {A : Type 0} (rule : ℕ → A → Check) (xs : List A) where
     }),
   )
     where
-      there_is : each rule 0 xs ≡ refused r → (n : ℕ) × StopsAt (get_elem? xs) rule r n
+      there_is : each rule 0 xs ≡ refused r → (n : ℕ) × StopsAt (slice_get xs) rule r n
       there_is e =
           let s = each_stops rule 0 xs e in (
             s.0,
@@ -113,10 +112,10 @@ module _ {A : Type 0} (rule : ℕ → A → Check) (xs : List A) where
   one_and : (d : ℕ) → 1 + d ≡ suc d
   one_and d = omega arith
 
-  pub each_from_1 : each rule 1 xs ≡ passed ↔ ((i : ℕ) (x : A) → slot i xs ≡ some x → rule i x ≡ passed)
+  pub each_from_1 : each rule 1 xs ≡ passed ↔ ((i : ℕ) (x : A) → slot i xs ≡ Some x → rule i x ≡ passed)
   each_from_1 = (λ e. one e, λ h. each_passes rule 1 xs (λ d x e. rw (one_and d) (h (suc d) x e)))
     where
-      one : each rule 1 xs ≡ passed → (i : ℕ) (x : A) → slot i xs ≡ some x → rule i x ≡ passed
+      one : each rule 1 xs ≡ passed → (i : ℕ) (x : A) → slot i xs ≡ Some x → rule i x ≡ passed
       one e zero x h = none_some h
       one e (suc d) x h = rw (one_and d) at (each_every rule 1 xs e d h)
 
@@ -135,8 +134,8 @@ module _ {A : Type 0} (rule : ℕ → A → Check) (xs : List A) where
             },
           )
         where
-          earlier : (n : ℕ) → ((m : ℕ) (y : A) → m < n → get_elem? xs m ≡ some y → rule (1 + m) y ≡ passed) → (i : ℕ) (y : A) → i < suc n
-              → slot i xs ≡ some y → rule i y ≡ passed
+          earlier : (n : ℕ) → ((m : ℕ) (y : A) → m < n → slice_get xs m ≡ Some y → rule (1 + m) y ≡ passed) → (i : ℕ) (y : A) → i < suc n
+              → slot i xs ≡ Some y → rule i y ≡ passed
           earlier n p zero y l w = none_some w
           earlier n p (suc m) y l w = rw (one_and m) at (p m y (omega arith) w)
 

@@ -2,7 +2,7 @@
 use Rattle.std.specs.Prelude.{if◌then◌else◌}
 use mathlib.Core.Path.{◌≡◌, refl, ap, ◌∙◌}
 use mathlib.Core.List.{List, map}
-use mathlib.Core.Option.{some}
+use Rattle.std.specs.Prelude.{Some}
 use mathlib.Core.Bool.{Bool, true, false}
 use Prim.Native.Nat.{ℕ, zero, suc}
 use lib.ListN.{length}
@@ -67,9 +67,9 @@ unmade_stays j e' (called g) ts h = absurd h
 module _ (s : Program) where
   abbrev pub HasArguments : Symbol → Trees Symbol → Type 0
   HasArguments (variable k) ts = Unit {0}
-  HasArguments (known c) ts = (k : Constructor) × (constructor s c ≡ some k) × (length (to_list ts) ≡ length k.arguments)
-  HasArguments (built c) ts = (k : Constructor) × (constructor s c ≡ some k) × (length (to_list ts) ≡ length k.arguments)
-  HasArguments (called g) ts = (k : Function) × (function s g ≡ some k) × (length (to_list ts) ≡ length k.parameters)
+  HasArguments (known c) ts = (k : Constructor) × (constructor s c ≡ Some k) × (length (to_list ts) ≡ length k.arguments)
+  HasArguments (built c) ts = (k : Constructor) × (constructor s c ≡ Some k) × (length (to_list ts) ≡ length k.arguments)
+  HasArguments (called g) ts = (k : Function) × (function s g ≡ Some k) × (length (to_list ts) ≡ length k.parameters)
 
   abbrev pub Full : Expression → Type 0
   Full e = Every HasArguments e

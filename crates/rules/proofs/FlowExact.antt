@@ -2,13 +2,13 @@
 use Rattle.std.specs.Prelude.{if◌then◌else◌}
 use mathlib.Core.Path.{◌≡◌, refl, sym, ap, ◌∙◌}
 use mathlib.Core.List.{List, [], ◌∷◌, ◌++◌}
-use mathlib.Core.Option.{some}
+use Rattle.std.specs.Prelude.{Some, slice_get}
 use mathlib.Core.Bool.{Bool, true, false, ◌&&◌, ◌||◌}
 use mathlib.Core.Logic.{◌↔◌}
 use Prim.Native.Nat.{ℕ, zero, suc, ◌+◌, ◌-◌, ◌≤◌, ◌<◌}
 use native.Mathlib.Omega.{arith}
 use native.Mathlib.Nat.{le_of_eq, add-zero, add-suc, suc-add, not-suc-le-zero, le_trans, le_refl}
-use lib.ListN.{length, take, get_elem?, replicate, length-append, length-replicate}
+use lib.ListN.{length, take, replicate, length-append, length-replicate}
 use lib.Dec.{eqb}
 use borrow.Author.Tests.{eqb-false, eq-eqb, le-leb, lt-ltb, ltb-true}
 use Rattle.rules.specs.declared.records.Instruction.{Instruction}
@@ -44,7 +44,7 @@ arrive_one code j e =
     }
 
 -- the sources of j, where just one of the instructions from k on names it, and once
-few_sources : (j k : ℕ) (code : List Instruction) (d : ℕ) → ((e : ℕ) (ins : Instruction) → get_elem? code e ≡ some ins
+few_sources : (j k : ℕ) (code : List Instruction) (d : ℕ) → ((e : ℕ) (ins : Instruction) → slice_get code e ≡ Some ins
     → (1 ≤ hits j (targets (k + e) ins) → e ≡ d) × (hits j (targets (k + e) ins) ≤ 1)) → length (sources j k code) ≤ 1
 unfolding sources
 few_sources j k [] d h = omega arith
@@ -57,10 +57,10 @@ few_sources j k (x ∷ code) zero h =
     less zero h = refl
     less (suc m) h = absurd (h (omega arith))
 
-    later : (e : ℕ) (ins : Instruction) → get_elem? code e ≡ some ins → 1 ≤ hits j (targets (suc k + e) ins) → ⊥
+    later : (e : ℕ) (ins : Instruction) → slice_get code e ≡ Some ins → 1 ≤ hits j (targets (suc k + e) ins) → ⊥
     later e ins c w = omega (arith, (h (suc e) ins c).0 (rw (add-suc k e, ← suc-add k e) w))
 
-    no_sources : (j k : ℕ) (code : List Instruction) → ((e : ℕ) (ins : Instruction) → get_elem? code e ≡ some ins
+    no_sources : (j k : ℕ) (code : List Instruction) → ((e : ℕ) (ins : Instruction) → slice_get code e ≡ Some ins
         → hits j (targets (k + e) ins) ≡ 0) → length (sources j k code) ≡ 0
     no_sources j k [] h = refl
     no_sources j k (x ∷ code) h =
@@ -92,16 +92,16 @@ one_arrives code j o = antisym (few o.from o.leads o.once o.alone) (some_arrive 
     few zero l once alone = none_some l.stands
     few (suc d) l once alone = few_sources j 1 (take (j - 1) code) d (λ e ins c. each e ins (at_take (j - 1) code e c))
       where
-        leads : (e : ℕ) (ins : Instruction) → (e < j - 1) × (get_elem? code e ≡ some ins) → 1 ≤ hits j (targets (1 + e) ins)
+        leads : (e : ℕ) (ins : Instruction) → (e < j - 1) × (slice_get code e ≡ Some ins) → 1 ≤ hits j (targets (1 + e) ins)
             → Leads code (suc e) j
         leads e ins c w =
             let z : 1 + e ≡ suc e = omega arith in
             record { ins = ins; stands = c.1; names = rw z at w; ahead = omega (arith, c.0) }
 
-        is : (e : ℕ) (ins : Instruction) → (e < j - 1) × (get_elem? code e ≡ some ins) → 1 ≤ hits j (targets (1 + e) ins) → e ≡ d
+        is : (e : ℕ) (ins : Instruction) → (e < j - 1) × (slice_get code e ≡ Some ins) → 1 ≤ hits j (targets (1 + e) ins) → e ≡ d
         is e ins c w = omega (arith, alone (suc e) (leads e ins c w))
 
-        each : (e : ℕ) (ins : Instruction) → (e < j - 1) × (get_elem? code e ≡ some ins)
+        each : (e : ℕ) (ins : Instruction) → (e < j - 1) × (slice_get code e ≡ Some ins)
             → (1 ≤ hits j (targets (1 + e) ins) → e ≡ d) × (hits j (targets (1 + e) ins) ≤ 1)
         each e ins c = (is e ins c, two (hits j (targets (1 + e) ins)) refl)
           where
@@ -134,15 +134,15 @@ passing_states i (Branch c b) p e = rw (← found_inj e) (◌l∷◌ {x = (suc i
 passing_states i Return p e = rw (← found_inj e) l[]
 passing_states i Stop p e = rw (← found_inj e) l[]
 
-first_state : (j : ℕ) {v : Bool} {L : List (Arrow Bool)} → All (λ a. a.1 ≡ v) L → 1 ≤ count j L → first (arriving j L) ≡ some v
+first_state : (j : ℕ) {v : Bool} {L : List (Arrow Bool)} → All (λ a. a.1 ≡ v) L → 1 ≤ count j L → first (arriving j L) ≡ Some v
 unfolding arriving
 first_state j l[] h = absurd (not-suc-le-zero h)
 first_state j {v} (◌l∷◌ {x} {xs} p ps) h = one (λ w. first_state j ps w) (eqb x.0 j) h
   where
-    one : (1 ≤ count j xs → first (arriving j xs) ≡ some v) → (t : Bool)
+    one : (1 ≤ count j xs → first (arriving j xs) ≡ Some v) → (t : Bool)
         → 1 ≤ length (if t then x.1 ∷ arriving j xs else arriving j xs)
-        → first (if t then x.1 ∷ arriving j xs else arriving j xs) ≡ some v
-    one ih true h = ap some p
+        → first (if t then x.1 ∷ arriving j xs else arriving j xs) ≡ Some v
+    one ih true h = ap Some p
     one ih false h = ih h
 
 makes_true : (ins : Instruction) (p : Bool) → Makes ins → after_one ins p ≡ true
@@ -173,7 +173,7 @@ module _ (code : List Instruction) where
 
   -- what the state at an instruction says, where each up to it has one arrival
   abbrev Told : ℕ → Type 0
-  Told i = (p : Bool) × (past_at code i ≡ some p) × (p ≡ true ↔ Behind code i)
+  Told i = (p : Bool) × (past_at code i ≡ Some p) × (p ≡ true ↔ Behind code i)
 
   abbrev OneEach : ℕ → Type 0
   OneEach m = (j : ℕ) → 2 ≤ j → j < m → j ≤ length code → arrivals code j ≡ 1
@@ -208,7 +208,7 @@ module _ (code : List Instruction) where
       (λ k lo' lt hi'. one k lo' (omega (arith, l.ahead)) hi') in
       let r = passing_found o.0 l.ins w.0 in
       let c : 1 ≤ count j r.0 = rw (passing_all o.0 l.ins w.0 r.0 r.1 j) l.names in
-      let is : past_at code j ≡ some (after_one l.ins w.0) =
+      let is : past_at code j ≡ Some (after_one l.ins w.0) =
       handed_state passing false code o.0 j (omega arith) hi o.1
       ∙ handed_on passing false code o.0 j l.ins w.0 r.0 l.stands w.1 r.1
       ∙ first_state j (passing_states o.0 l.ins w.0 r.1) c in (
@@ -224,7 +224,7 @@ module _ (code : List Instruction) where
       same_ins : (i k j : ℕ) (l : Leads code i j) (m : Leads code k j) → k ≡ i → m.ins ≡ l.ins
       same_ins i k j l m e = some_inj (sym m.stands ∙ rw (← e) at l.stands)
 
-      told : (j i : ℕ) (l : Leads code i j) (p : Bool) → (Behind code i → p ≡ true) → arrivals code j ≤ 1 → origin code j ≡ some i
+      told : (j i : ℕ) (l : Leads code i j) (p : Bool) → (Behind code i → p ≡ true) → arrivals code j ≤ 1 → origin code j ≡ Some i
           → Behind code j → after_one l.ins p ≡ true
       told j i l p b once o (made {i = k} m makes) =
           let same : k ≡ i = some_inj (sym (origin_is code k j m once) ∙ o) in
@@ -240,7 +240,7 @@ module _ (code : List Instruction) where
   with_one i before here j lo lt hi =
       up_to {P = λ j. 2 ≤ j → j ≤ length code → arrivals code j ≡ 1} i (λ j l lo hi. before j lo l hi) (λ lo hi. here lo) j lt lo hi
 
-  module _ (n i : ℕ) (ins : Instruction) (c : slot i code ≡ some ins) (before : OneEach i) where
+  module _ (n i : ℕ) (ins : Instruction) (c : slot i code ≡ Some ins) (before : OneEach i) where
     told : (2 ≤ i → arrivals code i ≡ 1) → Told i
     told one = let h = slot_low i code c in past_told i h.0 h.1 (with_one i before one)
 
@@ -296,7 +296,7 @@ pub flow_exact : (n : ℕ) (f : Function) → Decides (flow_of n f) (AllFlow f.c
 unfolding flow_of flow_rule
 flow_exact n f = verdict_decides (verdict_of_lem (flow_of n f) all stops) (λ r g w. w.2.here (g w.0 w.2.ins w.2.stands)) one
   where
-    once_below : (m : ℕ) → ((i : ℕ) (ins : Instruction) → i < m → slot i f.code ≡ some ins
+    once_below : (m : ℕ) → ((i : ℕ) (ins : Instruction) → i < m → slot i f.code ≡ Some ins
         → flow_rule f.code n i ins (past_at f.code i) ≡ passed) → OneEach f.code m
     once_below m h j lo lt hi =
         let c = slot_there f.code j (omega arith) hi in

@@ -2,7 +2,7 @@
 use Rattle.std.specs.Prelude.{if◌then◌else◌}
 use mathlib.Core.Path.{◌≡◌, refl, sym, ap, ◌∙◌, subst}
 use mathlib.Core.List.{List, [], ◌∷◌, ◌++◌}
-use mathlib.Core.Option.{Option, some}
+use Rattle.std.specs.Prelude.{Option, Some}
 use mathlib.Core.Bool.{Bool, true, false}
 use Prim.Native.Nat.{ℕ, ◌+◌, ◌≤◌, ◌<◌}
 use native.Mathlib.Omega.{arith}
@@ -74,12 +74,12 @@ allocated_cells heap c (r ∷ refs) n e = rw (← e) (length-append heap (cell c
 module _ (s : Program) (few : length s.constructors ≤ 64) (heap : Heap) (earlier : NamesEarlier heap) (fr : HeapFrame)
     (others : List HeapFrame) (here : All (Refers heap) fr.stack) (below : FramesRefer heap others) where
   abbrev Grows : Instruction → Type 0
-  Grows ins = (h' : HeapState) → execute_on s heap ins fr others ≡ some h'
-      → Grown (heap_state heap (fr ∷ others)) h' (cells_taken s (some ins))
+  Grows ins = (h' : HeapState) → execute_on s heap ins fr others ≡ Some h'
+      → Grown (heap_state heap (fr ∷ others)) h' (cells_taken s (Some ins))
 
   -- where the heap is as it was
   same_heap : (frames : List HeapFrame) → FramesRefer heap frames → {h' : HeapState}
-      → ◌≡◌ {A = Option HeapState} (some (heap_state heap frames)) (some h')
+      → ◌≡◌ {A = Option HeapState} (Some (heap_state heap frames)) (Some h')
       → Grown (heap_state heap (fr ∷ others)) h' 0
   same_heap frames refer e = rw (← some_inj e)
       (record { valid = record { earlier = earlier; refer = refer }; cells = omega arith; kept = λ k there. refl })
@@ -132,7 +132,7 @@ module _ (s : Program) (few : length s.constructors ≤ 64) (heap : Heap) (earli
       chosen k there p false = here
 
   answered_refers : (w : HeapFrame) (k : ℕ) (ins : Instruction) {back : HeapFrame} → All (Refers heap) w.stack → Refers heap k
-      → answered_with s w k ins ≡ some back → All (Refers heap) back.stack
+      → answered_with s w k ins ≡ Some back → All (Refers heap) back.stack
   unfolding answered_with
   answered_refers w k (Load a) l there e = none_some e
   answered_refers w k (Build c) l there e = none_some e
@@ -144,7 +144,7 @@ module _ (s : Program) (few : length s.constructors ≤ 64) (heap : Heap) (earli
   answered_refers w k Return l there e = none_some e
   answered_refers w k Stop l there e = none_some e
 
-  return_grows : (ws : List HeapFrame) → FramesRefer heap ws → (h' : HeapState) → execute_on s heap Return fr ws ≡ some h'
+  return_grows : (ws : List HeapFrame) → FramesRefer heap ws → (h' : HeapState) → execute_on s heap Return fr ws ≡ Some h'
       → Grown (heap_state heap (fr ∷ others)) h' 0
   unfolding execute_on
   return_grows [] l[] h' e = none_some e
@@ -174,13 +174,13 @@ takes_on s (fr ∷ others) = cells_taken s (current s (place_of fr))
 
 step_grows : (s : Program) → length s.constructors ≤ 64 → (heap : Heap) → NamesEarlier heap
     → (h' : HeapState) (frames : List HeapFrame) → FramesRefer heap frames
-    → step_on s heap frames ≡ some h' → Grown (heap_state heap frames) h' (takes_on s frames)
+    → step_on s heap frames ≡ Some h' → Grown (heap_state heap frames) h' (takes_on s frames)
 unfolding step_on
 step_grows s few heap earlier h' [] l[] e = none_some e
 step_grows s few heap earlier h' (fr ∷ others) (here l∷ below) e =
     let ins = bind_some (current s (place_of fr)) _ e in
     rw ins.1 (executes_grows s few heap earlier fr others here below ins.0 h' ins.2)
 
-pub heap_grows : (s : Program) → length s.constructors ≤ 64 → (h h' : HeapState) → Valid h → heap_step s h ≡ some h'
+pub heap_grows : (s : Program) → length s.constructors ≤ 64 → (h h' : HeapState) → Valid h → heap_step s h ≡ Some h'
     → Grown h h' (takes_on s h.frames)
 heap_grows s few h h' ok e = step_grows s few h.heap ok.earlier h' h.frames ok.refer e

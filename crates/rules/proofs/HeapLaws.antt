@@ -2,7 +2,7 @@
 use Rattle.std.specs.Prelude.{if◌then◌else◌}
 use mathlib.Core.Path.{◌≡◌, refl, sym, ap, ap₂, ◌∙◌}
 use mathlib.Core.List.{List, [], ◌∷◌, ◌++◌, map}
-use mathlib.Core.Option.{Option, some}
+use Rattle.std.specs.Prelude.{Option, Some}
 use mathlib.Core.Bool.{Bool, true, false}
 use Prim.Native.Nat.{ℕ, zero, suc, ◌-◌, ◌≤◌, ◌<◌}
 use native.Mathlib.Omega.{arith}
@@ -133,7 +133,7 @@ module _ (s : Program) (heap : Heap) where
       bind_both (frame_of heap) (function s g) _ _
       (λ f e. rw (map_split val (length f.parameters) w.stack)
       (bind_mapped (both_map val) (frame_of heap) (split (length f.parameters) w.stack) _ _
-      (λ parts e'. ap (λ (l : List Value). some (onward (frame_of heap w) l)) (sym (map-append val parts.0 (k ∷ []))))))
+      (λ parts e'. ap (λ (l : List Value). Some (onward (frame_of heap w) l)) (sym (map-append val parts.0 (k ∷ []))))))
   answers_alike w k (Branch c b) = refl
   answers_alike w k Return = refl
   answers_alike w k Stop = refl
@@ -158,7 +158,7 @@ module _ (s : Program) (heap : Heap) where
 
     -- the top frame goes on with a stack
     abbrev goes_on : List Value → Option State
-    goes_on stack = some (onward (frame_of heap fr) stack ∷ under)
+    goes_on stack = Some (onward (frame_of heap fr) stack ∷ under)
 
     load_alike : (a : ℕ) → Alike (Load a)
     unfolding execute execute_on
@@ -176,7 +176,7 @@ module _ (s : Program) (heap : Heap) where
       where
         built : c < 64 → (rest refs : List ℕ) → All (Refers heap) rest × All (Refers heap) refs
             → goes_on (push (map val rest) (made c (map val refs)))
-            ≡ some (state_of (heap_state (allocated heap c refs).0 (heap_onward fr (push rest (allocated heap c refs).1) ∷ others)))
+            ≡ Some (state_of (heap_state (allocated heap c refs).0 (heap_onward fr (push rest (allocated heap c refs).1) ∷ others)))
         built small rest refs p =
             let heap' : Heap = (allocated heap c refs).0 in
             let kept : (k : ℕ) → Refers heap k → val k ≡ value_of heap' k = λ k there. sym (allocated_kept heap earlier c refs k there) in
@@ -189,7 +189,7 @@ module _ (s : Program) (heap : Heap) where
             ap₂ (λ (l : List Value) (x : Value). push l x) (map_alike val (value_of heap') kept p.0)
             (sym (allocated_value heap earlier c small refs p.1))
             ∙ sym (map-append (value_of heap') rest (new ∷ [])) in
-            ap₂ (λ (l : List Value) (st : State). some (onward (frame_of heap fr) l ∷ st)) stack frames
+            ap₂ (λ (l : List Value) (st : State). Some (onward (frame_of heap fr) l ∷ st)) stack frames
 
     call_alike : (g : ℕ) → Alike (Call g)
     unfolding execute execute_on
@@ -217,7 +217,7 @@ module _ (s : Program) (heap : Heap) where
         over_on rest k t = if t then heap_onward fr (rest ++ arguments_of heap k) else heap_frame_at b fr fr.stack
 
         chosen : (rest : List ℕ) (k : ℕ) → Refers heap k → (t : Bool)
-            → ◌≡◌ {A = Option State} (some (over rest k t ∷ under)) (some (state_of (heap_state heap (over_on rest k t ∷ others))))
+            → ◌≡◌ {A = Option State} (Some (over rest k t ∷ under)) (Some (state_of (heap_state heap (over_on rest k t ∷ others))))
         chosen rest k there true =
             ap goes_on (ap (λ (l : List Value). map val rest ++ l) (value_arguments heap earlier k there)
             ∙ sym (map-append val rest (arguments_of heap k)))

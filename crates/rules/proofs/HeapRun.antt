@@ -1,7 +1,7 @@
 -- The run over heap cells answers as the run over the values that they stand for.
 use mathlib.Core.Path.{◌≡◌, refl, sym, ap, ap₂, ◌∙◌, subst}
 use mathlib.Core.List.{List, [], ◌∷◌, ◌++◌, map}
-use mathlib.Core.Option.{Option, none, some}
+use Rattle.std.specs.Prelude.{Option, None, Some}
 use Prim.Native.Nat.{ℕ, zero, suc, ◌+◌, ◌≤◌, ◌<◌}
 use native.Mathlib.Omega.{arith}
 use lib.ListN.{length, length-append, length-take, length-drop, take, drop}
@@ -55,9 +55,9 @@ module _ (s : Program) (heap : Heap) where
   end_alike [] = refl
   end_alike (fr ∷ others) = ap finished_with (result_alike (fr ∷ others)) ∙ one (result_on s (fr ∷ others))
     where
-      one : (o : Option ℕ) → finished_with (option_map (value_of heap) o) ≡ (o >>=ᵒ (λ k. some (finished (written (value_of heap k)))))
-      one none = refl
-      one (some k) = refl
+      one : (o : Option ℕ) → finished_with (option_map (value_of heap) o) ≡ (o >>=ᵒ (λ k. Some (finished (written (value_of heap k)))))
+      one None = refl
+      one (Some k) = refl
 
 ---- A step within the tables
 
@@ -92,8 +92,8 @@ module _ (s : Program) (few : length s.constructors ≤ 64) (m : Tables) where
       one : (o : Option HeapState) → heap_step s h ≡ o
           → ◌≡◌ {A = Tried Point} (or_refuse (option_map state_of o) stuck >>= (λ next. room next n >>= (λ _. found (next, n))))
           (point_of (or_refuse o stuck >>= (λ next. room (state_of next) (length next.heap) >>= (λ _. found next))))
-      one none e = refl
-      one (some h') e = rw (← (heap_grows s few h h' ok e).cells) (two h' (room (state_of h') (length h'.heap)))
+      one None e = refl
+      one (Some h') e = rw (← (heap_grows s few h h' ok e).cells) (two h' (room (state_of h') (length h'.heap)))
 
   within_valid : (heap : Heap) (frames : List HeapFrame) {h' : HeapState} → Valid (heap_state heap frames)
       → step_on_within s m heap frames ≡ found h' → Valid h'
@@ -110,10 +110,10 @@ module _ (s : Program) (few : length s.constructors ≤ 64) (m : Tables) where
   continued_alike zero steps h ok = one (end_on s h.heap h.frames) refl
     where
       one : (o : Option (Ending (List ℕ))) → end_on s h.heap h.frames ≡ o
-          → (elim o [ some e ↦ answer e steps | none ↦ answer (refused_with (refusal_at 14 (state_of h))) steps ])
+          → (elim o [ Some e ↦ answer e steps | None ↦ answer (refused_with (refusal_at 14 (state_of h))) steps ])
           ≡ continued s m zero steps (state_of h) (length h.heap)
-      one (some e) w = sym (continued_ended with_arguments s m zero steps (state_of h) _ (end_alike s h.heap h.frames ∙ w))
-      one none w = sym (continued_spent with_arguments s m steps (state_of h) _ (end_alike s h.heap h.frames ∙ w))
+      one (Some e) w = sym (continued_ended with_arguments s m zero steps (state_of h) _ (end_alike s h.heap h.frames ∙ w))
+      one None w = sym (continued_spent with_arguments s m steps (state_of h) _ (end_alike s h.heap h.frames ∙ w))
   continued_alike (suc left) steps h ok = one (end_on s h.heap h.frames) refl (λ h' ok'. continued_alike left (suc steps) h' ok')
     where
       Goes : (h' : HeapState) → Type 0
@@ -121,17 +121,17 @@ module _ (s : Program) (few : length s.constructors ≤ 64) (m : Tables) where
 
       one : (o : Option (Ending (List ℕ))) → end_on s h.heap h.frames ≡ o → ((h' : HeapState) → Valid h' → Goes h')
           → (elim o [
-            | some e ↦ answer e steps
-            | none ↦ elim (step_on_within s m h.heap h.frames) [
+            | Some e ↦ answer e steps
+            | None ↦ elim (step_on_within s m h.heap h.frames) [
               | found next ↦ continued_on s m left (suc steps) next
               | refused r ↦ answer (refused_with r) steps
             ]
           ])
           ≡ continued s m (suc left) steps (state_of h) (length h.heap)
-      one (some e) w ih = sym (continued_ended with_arguments s m (suc left) steps (state_of h) _ (end_alike s h.heap h.frames ∙ w))
-      one none w ih = two (step_on_within s m h.heap h.frames) refl
+      one (Some e) w ih = sym (continued_ended with_arguments s m (suc left) steps (state_of h) _ (end_alike s h.heap h.frames ∙ w))
+      one None w ih = two (step_on_within s m h.heap h.frames) refl
         where
-          going : end_of s (state_of h) ≡ none
+          going : end_of s (state_of h) ≡ None
           going = end_alike s h.heap h.frames ∙ w
 
           two : (t : Tried HeapState) → step_on_within s m h.heap h.frames ≡ t
@@ -186,7 +186,7 @@ allocated_all s few o (c ∷ bytes) pending e =
     n : ℕ
     n = arity s c
 
-    one : (k : Constructor) → constructor s c ≡ some k → length k.arguments ≤ length refs → Allocated s bytes → Allocated s (c ∷ bytes)
+    one : (k : Constructor) → constructor s c ≡ Some k → length k.arguments ≤ length refs → Allocated s bytes → Allocated s (c ∷ bytes)
     one k q many a =
         let mine : List ℕ = take n refs in
         let small : c < 64 = omega (arith, few, at_less s.constructors c q) in

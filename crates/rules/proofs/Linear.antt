@@ -2,7 +2,7 @@
 use Rattle.std.specs.Prelude.{if◌then◌else◌}
 use mathlib.Core.Path.{◌≡◌, refl}
 use mathlib.Core.List.{List, [], ◌∷◌, ◌++◌, map}
-use mathlib.Core.Option.{some}
+use Rattle.std.specs.Prelude.{Some}
 use mathlib.Core.Bool.{Bool, true, false}
 use Prim.Native.Nat.{ℕ, suc, ◌+◌, ◌*◌, ◌≤◌, ◌<◌, zero-le}
 use native.Mathlib.Omega.{arith}
@@ -32,7 +32,7 @@ use Rattle.rules.proofs.ExpressionLaws.{every_trees, every_fresh, every_replaced
 
 ---- Shapes on the way
 
-module _ (s : Program) (heavy : (c : ℕ) (k : Constructor) → constructor s c ≡ some k → k.weight ≤ 255 * length k.arguments) where
+module _ (s : Program) (heavy : (c : ℕ) (k : Constructor) → constructor s c ≡ Some k → k.weight ≤ 255 * length k.arguments) where
   -- in the parameters' shapes every variable stands at most once, none from the count on, and little weight
   pub record Tame (x : Shape) : Type 0 where
     pub plain : All Plain x.parameters
@@ -55,7 +55,7 @@ module _ (s : Program) (heavy : (c : ℕ) (k : Constructor) → constructor s c 
     stack_tame : (x : Shape) (es : List Expression) → Tame x → Tame (with_stack x es)
     stack_tame x es t = record { plain = t.plain; once = t.once; none_above = t.none_above; little = t.little; few = t.few }
 
-    split_tame : (x : Shape) (rest : List Expression) (v c : ℕ) (k : Constructor) → constructor s c ≡ some k
+    split_tame : (x : Shape) (rest : List Expression) (v c : ℕ) (k : Constructor) → constructor s c ≡ Some k
         → x.count + length k.arguments ≤ 16 → Tame x → Tame (split_variable x rest v c (length k.arguments))
     unfolding split_variable
     split_tame x rest v c k ck room t = record {
@@ -99,7 +99,7 @@ module _ (s : Program) (heavy : (c : ℕ) (k : Constructor) → constructor s c 
             (t.none_above y (leb-true _ _ e)) (t.once v) (fresh_once s y x.count (length k.arguments))
         once_more y false e = rw (fresh_below s y x.count (length k.arguments) (leb-false _ _ e)) (omega (arith, t.once y))
 
-    branch_tame : (i : ℕ) (x : Shape) (rest : List Expression) (c b : ℕ) (k : Constructor) → constructor s c ≡ some k
+    branch_tame : (i : ℕ) (x : Shape) (rest : List Expression) (c b : ℕ) (k : Constructor) → constructor s c ≡ Some k
         → (es : List Expression) (M : List (Arrow Shape))
         → branch_on s n f i x rest c (length k.arguments) b es ≡ found M → Tame x → All (Brings Tame) M
     branch_tame i x rest c b k ck [] M e t = absurd (branch_none s n f i x rest c (length k.arguments) b e)
@@ -134,7 +134,7 @@ module _ (s : Program) (heavy : (c : ℕ) (k : Constructor) → constructor s c 
     rule_tame i ins x M e t = from_tame i ins x M (shape_covered s n f i ins x e).1 t
 
 module _ {bytes : List ℕ} {s : Program} (P : Passed bytes s) (small : All (λ b. b < 256) bytes) where
-  pub shapes_tame : (n : ℕ) (f : Function) → function s n ≡ some f → (i : ℕ) (x : Shape) → shape_at s n f i ≡ some x
+  pub shapes_tame : (n : ℕ) (f : Function) → function s n ≡ Some f → (i : ℕ) (x : Shape) → shape_at s n f i ≡ Some x
       → Tame s (weight_heavy P small) x
   shapes_tame n f e i x h =
       state_all (shape_rule s n f) (root_at 1 (start_shape f)) f.code (λ _ x. Tame s (weight_heavy P small) x)

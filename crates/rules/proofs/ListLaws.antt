@@ -2,13 +2,13 @@
 use Rattle.std.specs.Prelude.{if◌then◌else◌}
 use mathlib.Core.Path.{◌≡◌, refl, sym, ap, ◌∙◌}
 use mathlib.Core.List.{List, [], ◌∷◌, ◌++◌, map}
-use mathlib.Core.Option.{Option, none, some}
+use Rattle.std.specs.Prelude.{Option, None, Some, slice_get}
 use mathlib.Core.Bool.{Bool, true, false, ◌&&◌, ◌||◌, and-eq-true_iff, or-true}
 use mathlib.Core.Logic.{◌↔◌}
 use Prim.Native.Nat.{ℕ, zero, suc, ◌+◌, ◌-◌, ◌≤◌, ◌<◌, zero-le, suc-le-suc}
 use native.Mathlib.Omega.{arith}
 use native.Mathlib.Nat.{add-zero, not-suc-le-zero, le_of_suc-le-suc}
-use lib.ListN.{length, take, drop, get_elem?, get_or, set, length-drop, take-append-drop}
+use lib.ListN.{length, take, drop, get_or, set, length-drop, take-append-drop}
 use lib.Seq.{sets, get_or-set_same, get_or-set_other}
 use lib.Dec.{leb, ltb, eqb}
 use borrow.Author.Tests.{leb-true, le-leb, ltb-true, lt-ltb, eqb-true, eqb-false, eq-eqb}
@@ -16,23 +16,23 @@ use Rattle.rules.specs.Base.{is_zero, all, any}
 use Rattle.rules.specs.Stacks.{slot, split}
 use Rattle.rules.specs.Lists.{All, l[], ◌l∷◌, Any, here, there, All2, a[], ◌a∷◌}
 
-pub none_some : {A : Type 0} {v : A} {P : Type 0} → ◌≡◌ {A = Option A} none (some v) → P
+pub none_some : {A : Type 0} {v : A} {P : Type 0} → ◌≡◌ {A = Option A} None (Some v) → P
 none_some p = let z : ◌≡◌ {A = ℕ} 0 1 = cc in absurd (omega arith)
 
-pub some_inj : {A : Type 0} {v w : A} → ◌≡◌ {A = Option A} (some v) (some w) → v ≡ w
+pub some_inj : {A : Type 0} {v w : A} → ◌≡◌ {A = Option A} (Some v) (Some w) → v ≡ w
 some_inj p = cc
 
-pub at_less : {A : Type 0} (l : List A) (k : ℕ) {v : A} → get_elem? l k ≡ some v → k < length l
+pub at_less : {A : Type 0} (l : List A) (k : ℕ) {v : A} → slice_get l k ≡ Some v → k < length l
 at_less [] k e = none_some e
 at_less (y ∷ l) zero e = suc-le-suc zero-le
 at_less (y ∷ l) (suc k) e = suc-le-suc (at_less l k e)
 
-pub get_d_element : {A : Type 0} (d : A) (l : List A) (k : ℕ) {v : A} → get_elem? l k ≡ some v → get_or l k d ≡ v
+pub get_d_element : {A : Type 0} (d : A) (l : List A) (k : ℕ) {v : A} → slice_get l k ≡ Some v → get_or l k d ≡ v
 get_d_element d [] k e = none_some e
 get_d_element d (y ∷ l) zero e = some_inj e
 get_d_element d (y ∷ l) (suc k) e = get_d_element d l k e
 
-pub slot_low : {A : Type 0} (i : ℕ) (xs : List A) {x : A} → slot i xs ≡ some x → (1 ≤ i) × (i ≤ length xs)
+pub slot_low : {A : Type 0} (i : ℕ) (xs : List A) {x : A} → slot i xs ≡ Some x → (1 ≤ i) × (i ≤ length xs)
 slot_low zero xs e = none_some e
 slot_low (suc d) xs e = (omega arith, at_less xs d e)
 
@@ -58,31 +58,31 @@ module _ {A B : Type 0} {R : A → B → Type 0} where
   all2_drop (suc k) a[] = a[]
   all2_drop (suc k) (r a∷ p) = all2_drop k p
 
-  all2_at : (n : ℕ) {xs : List A} {ys : List B} {y : B} → All2 R xs ys → get_elem? ys n ≡ some y → (x : A) × (get_elem? xs n ≡ some x)
+  all2_at : (n : ℕ) {xs : List A} {ys : List B} {y : B} → All2 R xs ys → slice_get ys n ≡ Some y → (x : A) × (slice_get xs n ≡ Some x)
       × R x y
   all2_at n a[] e = none_some e
   all2_at zero (◌a∷◌ {x} r p) e = (x, refl, (rw (some_inj e) at r))
   all2_at (suc n) (r a∷ p) e = all2_at n p e
 
   -- where the second has a slot, so has the first, and the two are related
-  pub all2_slot : (n : ℕ) {xs : List A} {ys : List B} {y : B} → All2 R xs ys → slot n ys ≡ some y → (x : A) × (slot n xs ≡ some x) × R x y
+  pub all2_slot : (n : ℕ) {xs : List A} {ys : List B} {y : B} → All2 R xs ys → slot n ys ≡ Some y → (x : A) × (slot n xs ≡ Some x) × R x y
   all2_slot zero p e = none_some e
   all2_slot (suc n) p e = all2_at n p e
 
 -- the parts of a split that is there
-pub split_parts : {A : Type 0} (n : ℕ) (xs : List A) {p : List A × List A} → split n xs ≡ some p → (n ≤ length xs)
+pub split_parts : {A : Type 0} (n : ℕ) (xs : List A) {p : List A × List A} → split n xs ≡ Some p → (n ≤ length xs)
     × (p ≡ (take (length xs - n) xs, drop (length xs - n) xs))
 unfolding split
 split_parts {A} n xs {p} e = go (leb n (length xs)) refl e
   where
     go : (t : Bool) → leb n (length xs) ≡ t
-        → ◌≡◌ {A = Option (List A × List A)} (if t then some (take (length xs - n) xs, drop (length xs - n) xs) else none) (some p)
+        → ◌≡◌ {A = Option (List A × List A)} (if t then Some (take (length xs - n) xs, drop (length xs - n) xs) else None) (Some p)
         → (n ≤ length xs) × (p ≡ (take (length xs - n) xs, drop (length xs - n) xs))
     go true h e = (leb-true n (length xs) h, cc)
     go false h e = none_some e
 
 -- a stack that can be cut is its two parts
-pub cut : {A : Type 0} (k : ℕ) (xs rest top : List A) → split k xs ≡ some (rest, top) → (xs ≡ rest ++ top) × (length top ≡ k)
+pub cut : {A : Type 0} (k : ℕ) (xs rest top : List A) → split k xs ≡ Some (rest, top) → (xs ≡ rest ++ top) × (length top ≡ k)
 cut {A} k xs rest top e =
     let p = split_parts k xs e in
     let r : rest ≡ take (length xs - k) xs = ap (λ (q : List A × List A). q.0) p.1 in
@@ -91,8 +91,8 @@ cut {A} k xs rest top e =
 
 module _ {A B : Type 0} {R : A → B → Type 0} where
   -- where the second can be split, so can the first
-  pub all2_split : (n : ℕ) {xs : List A} {ys : List B} {q : List B × List B} → All2 R xs ys → split n ys ≡ some q
-      → (p : List A × List A) × (split n xs ≡ some p) × All2 R p.0 q.0 × All2 R p.1 q.1
+  pub all2_split : (n : ℕ) {xs : List A} {ys : List B} {q : List B × List B} → All2 R xs ys → split n ys ≡ Some q
+      → (p : List A × List A) × (split n xs ≡ Some p) × All2 R p.0 q.0 × All2 R p.1 q.1
   unfolding split
   all2_split n {xs} {ys} {q} p e = go (leb n (length ys)) refl e
     where
@@ -100,8 +100,8 @@ module _ {A B : Type 0} {R : A → B → Type 0} where
       k = length ys - n
 
       go : (t : Bool) → leb n (length ys) ≡ t
-          → ◌≡◌ {A = Option (List B × List B)} (if t then some (take (length ys - n) ys, drop (length ys - n) ys) else none) (some q)
-          → (p : List A × List A) × (split n xs ≡ some p) × All2 R p.0 q.0 × All2 R p.1 q.1
+          → ◌≡◌ {A = Option (List B × List B)} (if t then Some (take (length ys - n) ys, drop (length ys - n) ys) else None) (Some q)
+          → (p : List A × List A) × (split n xs ≡ Some p) × All2 R p.0 q.0 × All2 R p.1 q.1
       go true h e =
           let eq : (take (length ys - n) ys, drop (length ys - n) ys) ≡ q = some_inj e in (
             (take (length ys - n) xs, drop (length ys - n) xs),
@@ -112,13 +112,13 @@ module _ {A B : Type 0} {R : A → B → Type 0} where
       go false h e = none_some e
 
 module _ {A B : Type 0} {R : A → B → Type 0} where
-  pub all2_slots : (n : ℕ) {xs : List A} {ys : List B} {x : A} {y : B} → All2 R xs ys → slot n xs ≡ some x → slot n ys ≡ some y → R x y
+  pub all2_slots : (n : ℕ) {xs : List A} {ys : List B} {x : A} {y : B} → All2 R xs ys → slot n xs ≡ Some x → slot n ys ≡ Some y → R x y
   all2_slots n p e e' =
       let r = all2_slot n p e' in
       rw (some_inj (sym r.1 ∙ e)) at r.2
 
-  pub all2_splits : (n : ℕ) {xs : List A} {ys : List B} {p : List A × List A} {q : List B × List B} → All2 R xs ys → split n xs ≡ some p
-      → split n ys ≡ some q → All2 R p.0 q.0 × All2 R p.1 q.1
+  pub all2_splits : (n : ℕ) {xs : List A} {ys : List B} {p : List A × List A} {q : List B × List B} → All2 R xs ys → split n xs ≡ Some p
+      → split n ys ≡ Some q → All2 R p.0 q.0 × All2 R p.1 q.1
   all2_splits n a e e' =
       let r = all2_split n a e' in
       let same = some_inj (sym r.1 ∙ e) in
@@ -147,7 +147,7 @@ pub all_append : {A : Type 0} {P : A → Type 0} {xs ys : List A} → All P xs �
 all_append l[] q = q
 all_append (p l∷ ps) q = p l∷ all_append ps q
 
-pub all_at : {A : Type 0} {P : A → Type 0} {xs : List A} (n : ℕ) {x : A} → All P xs → get_elem? xs n ≡ some x → P x
+pub all_at : {A : Type 0} {P : A → Type 0} {xs : List A} (n : ℕ) {x : A} → All P xs → slice_get xs n ≡ Some x → P x
 all_at n l[] e = none_some e
 all_at zero (p l∷ ps) e = rw (some_inj e) at p
 all_at (suc n) (p l∷ ps) e = all_at n ps e
@@ -171,11 +171,11 @@ pub all_last : {A : Type 0} {P : A → Type 0} (xs : List A) {x : A} → All P (
 all_last [] (p l∷ l[]) = p
 all_last (y ∷ xs) (p l∷ ps) = all_last xs ps
 
-pub all_slot : {A : Type 0} {P : A → Type 0} (a : ℕ) {xs : List A} {x : A} → slot a xs ≡ some x → All P xs → P x
+pub all_slot : {A : Type 0} {P : A → Type 0} (a : ℕ) {xs : List A} {x : A} → slot a xs ≡ Some x → All P xs → P x
 all_slot zero e h = none_some e
 all_slot (suc k) e h = all_at k h e
 
-pub all_parts : {A : Type 0} {P : A → Type 0} (k : ℕ) {xs : List A} {p : List A × List A} → split k xs ≡ some p → All P xs
+pub all_parts : {A : Type 0} {P : A → Type 0} (k : ℕ) {xs : List A} {p : List A × List A} → split k xs ≡ Some p → All P xs
     → All P p.0 × All P p.1
 all_parts k {xs} e h =
     let r = split_parts k xs e in
@@ -248,7 +248,7 @@ any_true {A} {P} f g (x ∷ xs) h = one (λ e. any_true f g xs e) (f x) refl h
     one ih true e w = here (g x e)
     one ih false e w = there (ih w)
 
-pub at_there : {A : Type 0} (l : List A) (k : ℕ) → k < length l → (v : A) × (get_elem? l k ≡ some v)
+pub at_there : {A : Type 0} (l : List A) (k : ℕ) → k < length l → (v : A) × (slice_get l k ≡ Some v)
 at_there [] k h = absurd (not-suc-le-zero h)
 at_there (x ∷ l) zero h = (x, refl)
 at_there (x ∷ l) (suc k) h = at_there l k (le_of_suc-le-suc h)

@@ -2,18 +2,18 @@
 use Rattle.std.specs.Prelude.{if◌then◌else◌}
 use mathlib.Core.Path.{◌≡◌, refl, ap, ap₂}
 use mathlib.Core.List.{List, [], ◌∷◌, ◌++◌, map}
-use mathlib.Core.Option.{Option, none, some}
+use Rattle.std.specs.Prelude.{Option, None, Some, slice_get}
 use mathlib.Core.Bool.{Bool, true, false}
 use Prim.Native.Nat.{ℕ, zero, suc, ◌-◌}
-use lib.ListN.{length, take, drop, get_elem?, length-map}
+use lib.ListN.{length, take, drop, length-map}
 use lib.Dec.{leb}
 use Rattle.rules.specs.Lists.{All, l[], ◌l∷◌}
 use Rattle.rules.specs.Stacks.{slot, split}
 use Rattle.rules.specs.Machine.{◌>>=◌}
 
 abbrev pub option_map : {A B : Type 0} → (A → B) → Option A → Option B
-option_map g none = none
-option_map g (some a) = some (g a)
+option_map g None = None
+option_map g (Some a) = Some (g a)
 
 abbrev pub both_map : {A B : Type 0} → (A → B) → List A × List A → List B × List B
 both_map g p = (map g p.0, map g p.1)
@@ -33,7 +33,7 @@ module _ {A B : Type 0} (g : A → B) where
   map_drop (suc n) [] = refl
   map_drop (suc n) (x ∷ xs) = map_drop n xs
 
-  map_at : (xs : List A) (k : ℕ) → get_elem? (map g xs) k ≡ option_map g (get_elem? xs k)
+  map_at : (xs : List A) (k : ℕ) → slice_get (map g xs) k ≡ option_map g (slice_get xs k)
   map_at [] k = refl
   map_at (x ∷ xs) zero = refl
   map_at (x ∷ xs) (suc k) = map_at xs k
@@ -49,9 +49,9 @@ module _ {A B : Type 0} (g : A → B) where
       k : ℕ
       k = length xs - n
 
-      one : (t : Bool) → ◌≡◌ {A = Option (List B × List B)} (if t then some (take k (map g xs), drop k (map g xs)) else none)
-          (option_map (both_map g) (if t then some (take k xs, drop k xs) else none))
-      one true = ap₂ (λ (a b : List B). some (a, b)) (map_take k xs) (map_drop k xs)
+      one : (t : Bool) → ◌≡◌ {A = Option (List B × List B)} (if t then Some (take k (map g xs), drop k (map g xs)) else None)
+          (option_map (both_map g) (if t then Some (take k xs, drop k xs) else None))
+      one true = ap₂ (λ (a b : List B). Some (a, b)) (map_take k xs) (map_drop k xs)
       one false = refl
 
 -- where two functions agree on the elements
@@ -63,12 +63,12 @@ map_alike f g e (◌l∷◌ {x} p ps) = ap₂ ◌∷◌ (e x p) (map_alike f g e
 
 -- from something needed that both sides have
 pub bind_both : {A C D : Type 0} (t : C → D) (o : Option A) (f : A → Option D) (h : A → Option C)
-    → ((a : A) → o ≡ some a → f a ≡ option_map t (h a)) → (o >>= f) ≡ option_map t (o >>= h)
-bind_both t none f h e = refl
-bind_both t (some a) f h e = e a refl
+    → ((a : A) → o ≡ Some a → f a ≡ option_map t (h a)) → (o >>= f) ≡ option_map t (o >>= h)
+bind_both t None f h e = refl
+bind_both t (Some a) f h e = e a refl
 
 -- from something needed that one side has mapped
 pub bind_mapped : {A B C D : Type 0} (g : A → B) (t : C → D) (o : Option A) (f : B → Option D) (h : A → Option C)
-    → ((a : A) → o ≡ some a → f (g a) ≡ option_map t (h a)) → (option_map g o >>= f) ≡ option_map t (o >>= h)
-bind_mapped g t none f h e = refl
-bind_mapped g t (some a) f h e = e a refl
+    → ((a : A) → o ≡ Some a → f (g a) ≡ option_map t (h a)) → (option_map g o >>= f) ≡ option_map t (o >>= h)
+bind_mapped g t None f h e = refl
+bind_mapped g t (Some a) f h e = e a refl

@@ -1,7 +1,7 @@
 -- Linear measures of size forms: a coefficient, the constant. And their 16 coefficients.
 use mathlib.Core.Path.{◌≡◌, refl, ap, ◌∙◌}
 use mathlib.Core.List.{List, [], ◌∷◌, map}
-use mathlib.Core.Option.{Option, none, some}
+use Rattle.std.specs.Prelude.{Option, None, Some}
 use mathlib.Core.Bool.{Bool, true, false}
 use Prim.Native.Nat.{ℕ, zero, suc, ◌+◌, ◌*◌, ◌≤◌, zero-le}
 use native.Mathlib.Omega.{arith}
@@ -109,8 +109,8 @@ module _ (s : Program) (μ : Measure) where
   built_most : (o : Option Constructor) {args : List ℕ} {forms : List Form} → All2 Most args forms
       → Most (μ.κ * weight_of o + total args) (built_form o forms)
   unfolding built_form
-  built_most none p = l[]
-  built_most (some k) {args} p =
+  built_most None p = l[]
+  built_most (Some k) {args} p =
       all_map (λ a z. le_trans z (omega (arith, dot_ones_most (length k.arguments) args)))
       (substituted_most (replicate (length k.arguments) 1) k.weight p)
 
@@ -185,8 +185,8 @@ substituted_wide (suc m ∷ ms) k (◌l∷◌ {xs} u p) =
 
 built_wide : (o : Option Constructor) {forms : List Form} → All WideForm forms → WideForm (built_form o forms)
 unfolding built_form
-built_wide none p = l[]
-built_wide (some k) p = substituted_wide (replicate (length k.arguments) 1) k.weight p
+built_wide None p = l[]
+built_wide (Some k) p = substituted_wide (replicate (length k.arguments) 1) k.weight p
 
 module _ (s : Program) where
   mutual
@@ -200,8 +200,8 @@ module _ (s : Program) where
     form_wide (node (called g) ts) = one (function s g) (forms_wide ts)
       where
         one : (o : Option Function) {forms : List Form} → All WideForm forms → WideForm (called_form o forms)
-        one none p = l[]
-        one (some f) {forms} p =
+        one None p = l[]
+        one (Some f) {forms} p =
             all_flat_map (λ a. substituted a.coefficients a.constant forms)
             (λ a (u : Unit {0}). substituted_wide a.coefficients a.constant p) (all_any f.bound)
 

@@ -2,12 +2,12 @@
 use Rattle.std.specs.Prelude.{if◌then◌else◌}
 use mathlib.Core.Path.{◌≡◌, refl, sym, ap, ◌∙◌}
 use mathlib.Core.List.{List, [], ◌∷◌, ◌++◌, map, append_assoc}
-use mathlib.Core.Option.{some}
+use Rattle.std.specs.Prelude.{Some, slice_get}
 use mathlib.Core.Bool.{Bool, true, false}
 use Prim.Native.Nat.{ℕ, zero, suc, ◌+◌, ◌≤◌}
 use native.Mathlib.Omega.{arith}
 use native.Mathlib.Nat.{le_trans, le_of_eq}
-use lib.ListN.{length, get_or, get_elem?, replicate, length-map, length-append}
+use lib.ListN.{length, get_or, replicate, length-map, length-append}
 use lib.Dec.{eqb}
 use borrow.Author.Tests.{eqb-true}
 use Rattle.rules.specs.Program.{Constructor, Function, Program, constructor, function}
@@ -23,16 +23,16 @@ use Rattle.rules.specs.Quasi.{total}
 
 ---- Lists
 
-at_append : {A : Type 0} (l m : List A) (k : ℕ) {v : A} → get_elem? l k ≡ some v → get_elem? (l ++ m) k ≡ some v
+at_append : {A : Type 0} (l m : List A) (k : ℕ) {v : A} → slice_get l k ≡ Some v → slice_get (l ++ m) k ≡ Some v
 at_append [] m k e = none_some e
 at_append (x ∷ l) m zero e = e
 at_append (x ∷ l) m (suc k) e = at_append l m k e
 
-at_end : {A : Type 0} (l m : List A) (v : A) → get_elem? (l ++ v ∷ m) (length l) ≡ some v
+at_end : {A : Type 0} (l m : List A) (v : A) → slice_get (l ++ v ∷ m) (length l) ≡ Some v
 at_end [] m v = refl
 at_end (x ∷ l) m v = at_end l m v
 
-at_mapped : {A : Type 0} (f : A → ℕ) (l : List A) (k : ℕ) {v : A} → get_elem? l k ≡ some v → get_or (map f l) k 0 ≡ f v
+at_mapped : {A : Type 0} (f : A → ℕ) (l : List A) (k : ℕ) {v : A} → slice_get l k ≡ Some v → get_or (map f l) k 0 ≡ f v
 at_mapped f [] k e = none_some e
 at_mapped f (y ∷ l) zero e = ap f (some_inj e)
 at_mapped f (y ∷ l) (suc k) e = at_mapped f l k e
@@ -60,10 +60,10 @@ module _ (s : Program) where
 
 -- constructors without arguments weigh nothing
 abbrev pub Light : Program → Type 0
-Light s = (c : ℕ) (k : Constructor) → constructor s c ≡ some k → length k.arguments ≡ 0 → k.weight ≡ 0
+Light s = (c : ℕ) (k : Constructor) → constructor s c ≡ Some k → length k.arguments ≡ 0 → k.weight ≡ 0
 
 -- the size of a value as the build's bound has it: coefficients 1 and the weight
-size_made : (s : Program) → Light s → (c : ℕ) (k : Constructor) → constructor s c ≡ some k → (vs : Trees ℕ)
+size_made : (s : Program) → Light s → (c : ℕ) (k : Constructor) → constructor s c ≡ Some k → (vs : Trees ℕ)
     → length (to_list vs) ≡ length k.arguments
     → size s (node c vs) ≡ k.weight + dot (replicate (length k.arguments) 1) (sizes s (to_list vs))
 size_made s light c k e vs len =
@@ -80,15 +80,15 @@ module _ (s : Program) where
   -- C: whether calls may come up
   abbrev mutual
     pub Models : Type 0 → List Value → Value → Expression → Type 0
-    Models C ρ v (node (variable k) ts) = get_elem? ρ k ≡ some v
+    Models C ρ v (node (variable k) ts) = slice_get ρ k ≡ Some v
     Models C ρ v (node (known c) ts) =
-        (vs : Trees ℕ) × (v ≡ node c vs) × (k : Constructor) × (constructor s c ≡ some k) × (length (to_list vs) ≡ length k.arguments)
+        (vs : Trees ℕ) × (v ≡ node c vs) × (k : Constructor) × (constructor s c ≡ Some k) × (length (to_list vs) ≡ length k.arguments)
         × ModelsAll C ρ ts (to_list vs)
     Models C ρ v (node (built c) ts) =
-        (vs : Trees ℕ) × (v ≡ node c vs) × (k : Constructor) × (constructor s c ≡ some k) × (length (to_list vs) ≡ length k.arguments)
+        (vs : Trees ℕ) × (v ≡ node c vs) × (k : Constructor) × (constructor s c ≡ Some k) × (length (to_list vs) ≡ length k.arguments)
         × ModelsAll C ρ ts (to_list vs)
     Models C ρ v (node (called g) ts) =
-        (us : List Value) × C × (f : Function) × (function s g ≡ some f) × Under (sizes s us) (size s v) f.bound × ModelsAll C ρ ts us
+        (us : List Value) × C × (f : Function) × (function s g ≡ Some f) × Under (sizes s us) (size s v) f.bound × ModelsAll C ρ ts us
 
     ModelsAll : Type 0 → List Value → Trees Symbol → List Value → Type 0
     ModelsAll C ρ nil [] = Unit {0}
@@ -110,7 +110,7 @@ module _ (s : Program) where
 
   -- a value is no larger than some alternative of its expression's form
   module _ (light : Light s) (C : Type 0) (ρ : List Value) (wide : length ρ ≤ 16) where
-    variable_size : (k : ℕ) (v : Value) → get_elem? ρ k ≡ some v → value_at (sizes s ρ) (variable_only k) ≡ size s v
+    variable_size : (k : ℕ) (v : Value) → slice_get ρ k ≡ Some v → value_at (sizes s ρ) (variable_only k) ≡ size s v
     variable_size k v h = variable_value (sizes s ρ) k (le_trans (at_less ρ k h) wide) ∙ at_mapped (size s) ρ k h
 
     mutual
@@ -136,7 +136,7 @@ module _ (s : Program) where
       models_under_all (cons t ts) (v ∷ vs) h = models_under t v h.0 a∷ models_under_all ts vs h.1
 
     -- what is under the bound at the arguments is under the form of the call
-    pub called_under : (g : ℕ) (f : Function) → function s g ≡ some f → (ts : Trees Symbol) (us : List Value) → ModelsAll C ρ ts us
+    pub called_under : (g : ℕ) (f : Function) → function s g ≡ Some f → (ts : Trees Symbol) (us : List Value) → ModelsAll C ρ ts us
         → (n : ℕ) → Under (sizes s us) n f.bound → Under (sizes s ρ) n (form_of s (node (called g) ts))
     unfolding form_of called_form
     called_under g f e ts us h n u = rw e (into_under (sizes s ρ) f.bound n (models_under_all ts us h) u)
@@ -163,7 +163,7 @@ module _ (s : Program) where
       models_over_all (cons t ts) (v ∷ vs) h = models_over t v h.0 a∷ models_over_all ts vs h.1
 
   -- an expression for a variable, and values for more variables
-  module _ (C : Type 0) (ρ more : List Value) (k : ℕ) (w : Value) (at_k : get_elem? ρ k ≡ some w) (e' : Expression)
+  module _ (C : Type 0) (ρ more : List Value) (k : ℕ) (w : Value) (at_k : slice_get ρ k ≡ Some w) (e' : Expression)
       (is : Models C (ρ ++ more) w e') where
     mutual
       unfolding replace

@@ -1,12 +1,12 @@
 -- Lists and checks by number: `numbered`, `for_each`, `each`.
 use mathlib.Core.Path.{◌≡◌, refl, sym, ap, ◌∙◌, subst}
-use mathlib.Core.Option.{none, some}
+use Rattle.std.specs.Prelude.{None, Some, slice_get}
 use mathlib.Core.Logic.{◌↔◌}
 use Prim.Native.Nat.{ℕ, zero, suc, ◌+◌, ◌-◌, ◌≤◌, ◌<◌}
 use native.Mathlib.Omega.{arith}
 use native.Mathlib.Numerals.{add-one}
 use native.Mathlib.Nat.{zero-add, not-suc-le-zero, add-suc, suc-add, add-zero}
-use lib.ListN.{length, get_elem?}
+use lib.ListN.{length}
 use Rattle.rules.specs.Base.{Refusal, found, refused, ◌>>=◌, Check, passed, numbered, for_each, each}
 use Rattle.rules.specs.Lists.{All, l[], ◌l∷◌}
 use Rattle.rules.proofs.ListLaws.{at_less, some_inj}
@@ -18,26 +18,26 @@ module _ {A : Type 0} (f : ℕ → A) where
   numbered_length zero k = refl
   numbered_length (suc n) k = ap suc (numbered_length n (suc k))
 
-  pub numbered_at : (n k i : ℕ) → i < n → get_elem? (numbered f k n) i ≡ some (f (k + i))
+  pub numbered_at : (n k i : ℕ) → i < n → slice_get (numbered f k n) i ≡ Some (f (k + i))
   unfolding numbered
   numbered_at zero k i h = absurd (not-suc-le-zero h)
   numbered_at (suc n) k zero h = rw add-zero
   numbered_at (suc n) k (suc i) h = rw (add-suc, ← suc-add) (numbered_at n (suc k) i (omega arith))
 
-  pub numbered_past : (n k i : ℕ) → n ≤ i → get_elem? (numbered f k n) i ≡ none
+  pub numbered_past : (n k i : ℕ) → n ≤ i → slice_get (numbered f k n) i ≡ None
   unfolding numbered
   numbered_past zero k i h = refl
   numbered_past (suc n) k zero h = absurd (not-suc-le-zero h)
   numbered_past (suc n) k (suc i) h = numbered_past n (suc k) i (omega arith)
 
   -- an element of a numbered list is that of its number, and back
-  pub numbered_is : (n i : ℕ) {x : A} → get_elem? (numbered f 0 n) i ≡ some x → (i < n) × (x ≡ f i)
+  pub numbered_is : (n i : ℕ) {x : A} → slice_get (numbered f 0 n) i ≡ Some x → (i < n) × (x ≡ f i)
   numbered_is n i e =
       let h : i < n = subst (λ (m : ℕ). i < m) (numbered_length n 0) (at_less (numbered f 0 n) i e) in
       (h, some_inj (sym e ∙ numbered_at n 0 i h) ∙ ap f (zero-add i))
 
-  pub numbered_there : (n i : ℕ) → i < n → get_elem? (numbered f 0 n) i ≡ some (f i)
-  numbered_there n i h = numbered_at n 0 i h ∙ ap (λ (k : ℕ). some (f k)) (zero-add i)
+  pub numbered_there : (n i : ℕ) → i < n → slice_get (numbered f 0 n) i ≡ Some (f i)
+  numbered_there n i h = numbered_at n 0 i h ∙ ap (λ (k : ℕ). Some (f k)) (zero-add i)
 
   pub numbered_all : {P : A → Type 0} (n k : ℕ) → ((i : ℕ) → i < n → P (f (k + i))) → All P (numbered f k n)
   unfolding numbered

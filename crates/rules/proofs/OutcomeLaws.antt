@@ -1,7 +1,7 @@
 -- One law for each outcome of a rule that passes: what it hands on.
 use mathlib.Core.Path.{◌≡◌, refl}
 use mathlib.Core.List.{List, [], ◌∷◌, ◌++◌}
-use mathlib.Core.Option.{some}
+use Rattle.std.specs.Prelude.{Some}
 use mathlib.Core.Bool.{true}
 use Prim.Native.Nat.{ℕ, suc, ◌+◌, ◌-◌, ◌≤◌}
 use native.Mathlib.Omega.{arith}
@@ -21,7 +21,7 @@ use Rattle.rules.specs.Shapes.{Shape, with_stack, split_variable, covered_at, en
 
 ---- Stacks
 
-pub split_append : {A : Type 0} (xs ys : List A) → split (length ys) (xs ++ ys) ≡ some (xs, ys)
+pub split_append : {A : Type 0} (xs ys : List A) → split (length ys) (xs ++ ys) ≡ Some (xs, ys)
 unfolding split
 split_append xs ys =
     let l : length (xs ++ ys) - length ys ≡ length xs = omega (arith, length-append xs ys) in
@@ -43,22 +43,22 @@ module _ (s : Program) (n : ℕ) (f : Function) where
   unfolding types_on
   types_on_lem i stack h = rw (le-leb (length stack) 16 h)
 
-  pub load_typed : (i a : ℕ) (stack : List ℕ) {t : ℕ} → slot a stack ≡ some t
+  pub load_typed : (i a : ℕ) (stack : List ℕ) {t : ℕ} → slot a stack ≡ Some t
       → type_rule s n f i (Load a) stack ≡ types_on s n f i (push stack t)
   unfolding type_rule
   load_typed i a stack e = rw e
 
-  pub build_typed : (i c : ℕ) (stack : List ℕ) {k : Constructor} → constructor s c ≡ some k
+  pub build_typed : (i c : ℕ) (stack : List ℕ) {k : Constructor} → constructor s c ≡ Some k
       → type_rule s n f i (Build c) stack ≡ (below s n f i k.arguments stack >>= (λ rest. types_on s n f i (push rest k.result)))
   unfolding type_rule
   build_typed i c stack e = rw e
 
-  pub call_typed : (i g : ℕ) (stack : List ℕ) {k : Function} → function s g ≡ some k
+  pub call_typed : (i g : ℕ) (stack : List ℕ) {k : Function} → function s g ≡ Some k
       → type_rule s n f i (Call g) stack ≡ (below s n f i k.parameters stack >>= (λ rest. types_on s n f i (push rest k.result)))
   unfolding type_rule
   call_typed i g stack e = rw e
 
-  pub branch_typed : (i c b : ℕ) (stack : List ℕ) {k : Constructor} → constructor s c ≡ some k
+  pub branch_typed : (i c b : ℕ) (stack : List ℕ) {k : Constructor} → constructor s c ≡ Some k
       → type_rule s n f i (Branch c b) stack
       ≡ (below s n f i (k.result ∷ []) stack
       >>= (λ rest. types_on s n f i (rest ++ k.arguments) >>= (λ on. found (on ++ ((b, stack) ∷ [])))))
@@ -81,29 +81,29 @@ module _ (s : Program) (n : ℕ) (f : Function) where
   unfolding shape_rule
   rule_covered i ins x e = rw e
 
-  pub load_shaped : (i a : ℕ) (x : Shape) {e : Expression} → slot a x.stack ≡ some e
+  pub load_shaped : (i a : ℕ) (x : Shape) {e : Expression} → slot a x.stack ≡ Some e
       → shape_from s n f i (Load a) x ≡ found ((suc i, with_stack x (push x.stack e)) ∷ [])
   unfolding shape_from
   load_shaped i a x h = rw h
 
-  pub enter_fits : (i : ℕ) (x : Shape) (args : ℕ) (y : Symbol) {p : List Expression × List Expression} → split args x.stack ≡ some p
+  pub enter_fits : (i : ℕ) (x : Shape) (args : ℕ) (y : Symbol) {p : List Expression × List Expression} → split args x.stack ≡ Some p
       → length (form_of s (made y p.1)) ≤ 16
       → enter s n f i x args y ≡ found ((suc i, with_stack x (push p.0 (made y p.1))) ∷ [])
   unfolding enter
   enter_fits i x args y {p} e h = rw (e, le-leb (length (form_of s (made y p.1))) 16 h)
 
-  pub build_shaped : (i c : ℕ) (x : Shape) {k : Constructor} → constructor s c ≡ some k
+  pub build_shaped : (i c : ℕ) (x : Shape) {k : Constructor} → constructor s c ≡ Some k
       → shape_from s n f i (Build c) x ≡ enter s n f i x (length k.arguments) (built c)
   unfolding shape_from
   build_shaped i c x e = rw e
 
-  pub call_shaped : (i g : ℕ) (x : Shape) {k : Function} → function s g ≡ some k
+  pub call_shaped : (i g : ℕ) (x : Shape) {k : Function} → function s g ≡ Some k
       → shape_from s n f i (Call g) x ≡ enter s n f i x (length k.parameters) (called g)
   unfolding shape_from
   call_shaped i g x e = rw e
 
-  pub branch_shaped : (i c b : ℕ) (x : Shape) {k : Constructor} {p : List Expression × List Expression} → constructor s c ≡ some k
-      → split 1 x.stack ≡ some p
+  pub branch_shaped : (i c b : ℕ) (x : Shape) {k : Constructor} {p : List Expression × List Expression} → constructor s c ≡ Some k
+      → split 1 x.stack ≡ Some p
       → shape_from s n f i (Branch c b) x ≡ branch_on s n f i x p.0 c (length k.arguments) b p.1
   unfolding shape_from
   branch_shaped i c b x e h = rw (e, h)

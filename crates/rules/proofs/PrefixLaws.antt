@@ -2,7 +2,7 @@
 -- and what is written is read back.
 use mathlib.Core.Path.{◌≡◌, refl, ap}
 use mathlib.Core.List.{List, [], ◌∷◌, ◌++◌, append_assoc, append-nil}
-use mathlib.Core.Option.{some}
+use Rattle.std.specs.Prelude.{Some}
 use mathlib.Core.Bool.{◌&&◌, and-eq-true_iff}
 use native.Mathlib.Omega.{arith}
 use Prim.Native.Nat.{ℕ, suc, ◌≤◌}
@@ -24,13 +24,13 @@ use Rattle.rules.proofs.Models.{to_from, have_list, have_trees}
 
 ---- Bytes
 
-pub arity_is : (s : Program) (c : ℕ) {k : Constructor} → constructor s c ≡ some k → arity s c ≡ length k.arguments
+pub arity_is : (s : Program) (c : ℕ) {k : Constructor} → constructor s c ≡ Some k → arity s c ≡ length k.arguments
 unfolding arity_of
 arity_is s c e = ap arity_of e
 
 -- a byte that is right: its constructor, and the types that are read next
 pub read_cons : (s : Program) (o c : ℕ) (bytes pending : List ℕ) → read_bytes s o (c ∷ bytes) pending ≡ passed
-    → (t : ℕ) × (ps : List ℕ) × (k : Constructor) × (pending ≡ t ∷ ps) × (constructor s c ≡ some k) × (length (k.arguments ++ ps) ≤ 256)
+    → (t : ℕ) × (ps : List ℕ) × (k : Constructor) × (pending ≡ t ∷ ps) × (constructor s c ≡ Some k) × (length (k.arguments ++ ps) ≤ 256)
     × (read_bytes s (suc o) bytes (k.arguments ++ ps) ≡ passed)
 unfolding read_bytes read_byte
 read_cons s o c bytes [] e = let z : ◌≡◌ {A = ℕ} 0 1 = cc in absurd (omega arith)
@@ -67,7 +67,7 @@ read_typed s offset (c ∷ bytes) (t ∷ pending) e =
     let is : K.result ≡ t = eqb-true _ _ (and_left (eqb K.result t) (leb (length (K.arguments ++ pending)) 256) q.0) in
     first (values s bytes) K k.1 is (rw (← found_inj q.1) at (read_typed s (suc offset) bytes r.0 r.2))
   where
-    first : (later : List Value) (K : Constructor) → constructor s c ≡ some K → K.result ≡ t → Typed s later (K.arguments ++ pending)
+    first : (later : List Value) (K : Constructor) → constructor s c ≡ Some K → K.result ≡ t → Typed s later (K.arguments ++ pending)
         → Typed s (made c (take (arity_of (constructor s c)) later) ∷ drop (arity_of (constructor s c)) later) (t ∷ pending)
     first later K ck is h =
         let n = length K.arguments in

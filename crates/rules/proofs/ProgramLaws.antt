@@ -1,7 +1,7 @@
 -- The numbers of a program whose file is bytes: weights up to 255, constants up to 65,535, coefficients up to 15.
 use mathlib.Core.Path.{◌≡◌, refl}
 use mathlib.Core.List.{List}
-use mathlib.Core.Option.{some}
+use Rattle.std.specs.Prelude.{Some}
 use mathlib.Core.Bool.{Bool, true, false, ◌&&◌, ◌||◌}
 use Prim.Native.Nat.{ℕ, zero, suc, ◌+◌, ◌*◌, ◌/◌, ◌≤◌, ◌<◌, zero-le}
 use native.Mathlib.Omega.{arith}
@@ -26,11 +26,11 @@ module _ {bytes : List ℕ} {s : Program} (P : Passed bytes s) (small : All (λ 
   unfolding payload
   payload_small i = all_get_d i 0 (omega arith) (payload_bytes (length bytes / 512) small)
 
-  pub weight_most : (c : ℕ) (k : Constructor) → constructor s c ≡ some k → k.weight ≤ 255
+  pub weight_most : (c : ℕ) (k : Constructor) → constructor s c ≡ Some k → k.weight ≤ 255
   weight_most c k e = let d = decoded_constructor P c k e in omega (arith, d.weight, payload_small d.place)
 
   -- each argument counts at most 255 of the weight
-  pub weight_heavy : (c : ℕ) (k : Constructor) → constructor s c ≡ some k → k.weight ≤ 255 * length k.arguments
+  pub weight_heavy : (c : ℕ) (k : Constructor) → constructor s c ≡ Some k → k.weight ≤ 255 * length k.arguments
   weight_heavy c k e = one (length k.arguments) refl
     where
       one : (n : ℕ) → length k.arguments ≡ n → k.weight ≤ 255 * n
@@ -38,7 +38,7 @@ module _ {bytes : List ℕ} {s : Program} (P : Passed bytes s) (small : All (λ 
       one (suc n) h = omega (arith, weight_most c k e)
 
   -- and at most four go to each unit
-  pub weight_least : (c : ℕ) (k : Constructor) → constructor s c ≡ some k → length k.arguments ≤ 4 * k.weight
+  pub weight_least : (c : ℕ) (k : Constructor) → constructor s c ≡ Some k → length k.arguments ≤ 4 * k.weight
   unfolding weight_right
   weight_least c k e = least (length k.arguments) k.weight (decoded_constructor P c k e).few (weight_right_lem P c k e)
     where
@@ -52,7 +52,7 @@ module _ {bytes : List ℕ} {s : Program} (P : Passed bytes s) (small : All (λ 
       least (suc n) zero h e = absurd (never n (eqb (suc n) 0) (ltb 0 (suc n)) refl e)
       least (suc n) (suc w) h e = omega arith
 
-  pub bound_numbers : (n : ℕ) (f : Function) → function s n ≡ some f
+  pub bound_numbers : (n : ℕ) (f : Function) → function s n ≡ Some f
       → All (λ a. All (λ c. c ≤ 15) a.coefficients × (a.constant ≤ 65535)) f.bound
   bound_numbers n f e =
       all_map (λ a d. (d.coefficients, omega (arith, d.constant, payload_small d.place, payload_small (d.place + 1))))

@@ -2,7 +2,7 @@
 -- step. What is known of a frame, and of the value that a function gives, is left open: types alone, or types and sizes.
 use mathlib.Core.Path.{◌≡◌, refl, sym, ◌∙◌}
 use mathlib.Core.List.{List, [], ◌∷◌, ◌++◌}
-use mathlib.Core.Option.{Option, none, some}
+use Rattle.std.specs.Prelude.{Option, None, Some}
 use Prim.Native.Nat.{ℕ, zero, suc}
 use lib.ListN.{length}
 use Rattle.rules.specs.declared.records.Instruction.{Instruction}
@@ -20,21 +20,21 @@ use Rattle.rules.proofs.MachineLaws.{result_stops}
 module _ (s : Program) (Good : Frame → List Value → Type 0) (Gives : ℕ → List Value → Value → Type 0) where
   -- what the instruction of the top frame does: the frame stays, calls, returns or stops
   pub data Done (ins : Instruction) (fr : Frame) (us : List Value) : Type 0 where
-    stays : (j : ℕ) (stack : List Value) → ((others : List Frame) → execute s ins fr others ≡ some (frame_at j fr stack ∷ others))
+    stays : (j : ℕ) (stack : List Value) → ((others : List Frame) → execute s ins fr others ≡ Some (frame_at j fr stack ∷ others))
         → Good (frame_at j fr stack) us → Done ins fr us
-    calls : (g : ℕ) (vs : List Value) (G : Function) (rest : List Value) → ins ≡ Call g → function s g ≡ some G
-        → split (length G.parameters) fr.stack ≡ some (rest, vs) → Good (record { function = g; instruction = 1; stack = vs }) vs
+    calls : (g : ℕ) (vs : List Value) (G : Function) (rest : List Value) → ins ≡ Call g → function s g ≡ Some G
+        → split (length G.parameters) fr.stack ≡ Some (rest, vs) → Good (record { function = g; instruction = 1; stack = vs }) vs
         → ((v : Value) → Gives g vs v → Good (onward fr (push rest v)) us) → Done ins fr us
-    returns : (v : Value) → ins ≡ Return → top fr.stack ≡ some v → Gives fr.function us v → Done ins fr us
+    returns : (v : Value) → ins ≡ Return → top fr.stack ≡ Some v → Gives fr.function us v → Done ins fr us
     stops : ins ≡ Stop → Done ins fr us
 
-  module _ (does : (fr : Frame) (us : List Value) → Good fr us → (ins : Instruction) × (current s fr ≡ some ins) × Done ins fr us)
+  module _ (does : (fr : Frame) (us : List Value) → Good fr us → (ins : Instruction) × (current s fr ≡ Some ins) × Done ins fr us)
       (entry : ℕ) (begin : List Value) where
     -- the frames below one of function g called with vs: each waits at its call
     pub data Chain : ℕ → List Value → List Frame → Type 0 where
       bottom : {g : ℕ} {vs : List Value} → g ≡ entry → vs ≡ begin → Chain g vs []
       waits : {g : ℕ} {vs : List Value} {fr : Frame} {us : List Value} {others : List Frame} (G : Function) (rest : List Value)
-          → function s g ≡ some G → current s fr ≡ some (Call g) → split (length G.parameters) fr.stack ≡ some (rest, vs)
+          → function s g ≡ Some G → current s fr ≡ Some (Call g) → split (length G.parameters) fr.stack ≡ Some (rest, vs)
           → Good fr us → ((v : Value) → Gives g vs v → Good (onward fr (push rest v)) us)
           → Chain fr.function us others → Chain g vs (fr ∷ others)
 
@@ -44,10 +44,10 @@ module _ (s : Program) (Good : Frame → List Value → Type 0) (Gives : ℕ →
 
     -- a state steps to a good one, or has a result that is good
     pub data GoesOn (st : State) : Type 0 where
-      stepped : (next : State) → step s st ≡ some next → Inv next → GoesOn st
-      resulted : (v : Value) → result_of s st ≡ some v → step s st ≡ none → Gives entry begin v → GoesOn st
+      stepped : (next : State) → step s st ≡ Some next → Inv next → GoesOn st
+      resulted : (v : Value) → result_of s st ≡ Some v → step s st ≡ None → Gives entry begin v → GoesOn st
 
-    answers : {fr : Frame} {us : List Value} {others : List Frame} (v : Value) → current s fr ≡ some Return → top fr.stack ≡ some v
+    answers : {fr : Frame} {us : List Value} {others : List Frame} (v : Value) → current s fr ≡ Some Return → top fr.stack ≡ Some v
         → Gives fr.function us v → Chain fr.function us others → GoesOn (fr ∷ others)
     unfolding step result_of returned execute answered
     answers v ec et h (bottom e e') = resulted v (rw (ec, et)) (rw ec) (rw (← e, ← e') h)
@@ -58,7 +58,7 @@ module _ (s : Program) (Good : Frame → List Value → Type 0) (Gives : ℕ →
     unfolding step execute
     goes fr us others k ch = let d = does fr us k in one d.0 d.1 d.2
       where
-        one : (ins : Instruction) → current s fr ≡ some ins → Done ins fr us → GoesOn (fr ∷ others)
+        one : (ins : Instruction) → current s fr ≡ Some ins → Done ins fr us → GoesOn (fr ∷ others)
         one ins ec (stays j stack e k') = stepped (frame_at j fr stack ∷ others) (rw ec (e others)) (running k' ch)
         one ins ec (calls g vs G rest q eg cut k' again) =
             stepped (start g vs ++ fr ∷ others) (rw (ec, q, eg, cut)) (running k' (waits G rest eg (rw q at ec) cut k again ch))
@@ -69,7 +69,7 @@ module _ (s : Program) (Good : Frame → List Value → Type 0) (Gives : ℕ →
     going [] over h = absurd (h refl)
     going (fr ∷ others) (running {us = us} k ch) h = goes fr us others k ch
 
-    kept : (st next : State) → Inv st → step s st ≡ some next → Inv next
+    kept : (st next : State) → Inv st → step s st ≡ Some next → Inv next
     unfolding step
     kept [] next h e = none_some e
     kept (fr ∷ others) next (running {us = us} k ch) e = one (goes fr us others k ch)
@@ -78,18 +78,18 @@ module _ (s : Program) (Good : Frame → List Value → Type 0) (Gives : ℕ →
         one (stepped st' e' h') = rw (some_inj (sym e' ∙ e)) at h'
         one (resulted v e' w o) = absurd (none_some (sym w ∙ e))
 
-    pub kept_after : (k : ℕ) (st last : State) → Inv st → after s k st ≡ some last → Inv last
+    pub kept_after : (k : ℕ) (st last : State) → Inv st → after s k st ≡ Some last → Inv last
     unfolding after
     kept_after zero st last h e = rw (some_inj e) at h
     kept_after (suc k) st last h e = one (step s st) refl e (λ next. kept_after k next last)
       where
-        one : (o : Option State) → step s st ≡ o → (o >>= (λ next. after s k next)) ≡ some last
-            → ((next : State) → Inv next → after s k next ≡ some last → Inv last) → Inv last
-        one none w e ih = none_some e
-        one (some next) w e ih = ih next (kept st next h w) e
+        one : (o : Option State) → step s st ≡ o → (o >>= (λ next. after s k next)) ≡ Some last
+            → ((next : State) → Inv next → after s k next ≡ Some last → Inv last) → Inv last
+        one None w e ih = none_some e
+        one (Some next) w e ih = ih next (kept st next h w) e
 
     -- a result is one that the entry function gives
-    pub result_given : (st : State) (v : Value) → Inv st → result_of s st ≡ some v → Gives entry begin v
+    pub result_given : (st : State) (v : Value) → Inv st → result_of s st ≡ Some v → Gives entry begin v
     unfolding result_of
     result_given [] v h e = none_some e
     result_given (fr ∷ others) v (running {us = us} k ch) e = one (goes fr us others k ch)

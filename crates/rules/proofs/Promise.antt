@@ -2,7 +2,7 @@
 use Rattle.std.specs.Prelude.{if◌then◌else◌}
 use mathlib.Core.Path.{◌≡◌, refl, sym, ap, ◌∙◌}
 use mathlib.Core.List.{List, [], ◌∷◌, ◌++◌}
-use mathlib.Core.Option.{Option, none, some}
+use Rattle.std.specs.Prelude.{Option, None, Some}
 use mathlib.Core.Bool.{Bool, true, false, ◌&&◌}
 use mathlib.Core.Logic.{inl, inr}
 use Prim.Native.Nat.{ℕ, zero, suc, ◌+◌, ◌≤◌}
@@ -34,7 +34,7 @@ use Rattle.rules.proofs.PrefixLaws.{arguments_typed}
 use Rattle.rules.proofs.Reachable.{states_safe, limit, Invariant, Going, begins, going, given}
 
 -- an entry function with arguments of the declared types, and what is lent
-module _ {file : List ℕ} {s : Program} (P : Passed file s) (n : ℕ) (f : Function) (at_f : function s n ≡ some f) (us : List Value)
+module _ {file : List ℕ} {s : Program} (P : Passed file s) (n : ℕ) (f : Function) (at_f : function s n ≡ Some f) (us : List Value)
     (typed : Typed s us f.parameters) (m : Tables) (budget room cells₀ : ℕ) where
   abbrev B : ℕ
   B = limit P n f at_f us typed
@@ -50,9 +50,9 @@ module _ {file : List ℕ} {s : Program} (P : Passed file s) (n : ℕ) (f : Func
 
   -- there was room for each state up to here
   abbrev Fitted : ℕ → Type 0
-  Fitted steps = (k : ℕ) (st : State) → k ≤ steps → after s k (start n us) ≡ some st → Room m st (cells₀ + builds s k (start n us))
+  Fitted steps = (k : ℕ) (st : State) → k ≤ steps → after s k (start n us) ≡ Some st → Room m st (cells₀ + builds s k (start n us))
 
-  fitted_next : (steps : ℕ) (next : State) → Fitted steps → after s (suc steps) (start n us) ≡ some next
+  fitted_next : (steps : ℕ) (next : State) → Fitted steps → after s (suc steps) (start n us) ≡ Some next
       → Room m next (cells₀ + builds s (suc steps) (start n us)) → Fitted (suc steps)
   fitted_next steps next h r fits_next k st le e = one (leb k steps) refl
     where
@@ -64,7 +64,7 @@ module _ {file : List ℕ} {s : Program} (P : Passed file s) (n : ℕ) (f : Func
           rw (is, ← same) fits_next
 
   -- a result is delivered, or there is no room for it
-  delivers : (st : State) (v : Value) → result_of s st ≡ some v → Has s v f.result → size s v ≤ B → (steps : ℕ)
+  delivers : (st : State) (v : Value) → result_of s st ≡ Some v → Has s v f.result → size s v ≤ B → (steps : ℕ)
       → Ending-at steps st (delivered_in room (finished (written v)))
   unfolding delivered_in
   delivers st v e h l steps = one (leb (length (written v)) room) refl
@@ -76,8 +76,8 @@ module _ {file : List ℕ} {s : Program} (P : Passed file s) (n : ℕ) (f : Func
 
   -- a state ends the run, or steps
   data Now (st : State) : Type 0 where
-    done : (e : Ending (List ℕ)) → end_of s st ≡ some e → ((steps : ℕ) → Ending-at steps st (delivered_in room e)) → Now st
-    on : end_of s st ≡ none → (next : State) → step s st ≡ some next → Good next → Now st
+    done : (e : Ending (List ℕ)) → end_of s st ≡ Some e → ((steps : ℕ) → Ending-at steps st (delivered_in room e)) → Now st
+    on : end_of s st ≡ None → (next : State) → step s st ≡ Some next → Good next → Now st
 
   now : (st : State) → Good st → Now st
   unfolding end_of delivered_in
@@ -91,11 +91,11 @@ module _ {file : List ℕ} {s : Program} (P : Passed file s) (n : ℕ) (f : Func
       one (stepped next e h') = two (result_of s (fr ∷ frs)) refl
         where
           two : (x : Option Value) → result_of s (fr ∷ frs) ≡ x → Now (fr ∷ frs)
-          two (some v) w = absurd (none_some (sym (result_stops s (fr ∷ frs) w) ∙ e))
-          two none w = on (rw w) next e h'
+          two (Some v) w = absurd (none_some (sym (result_stops s (fr ∷ frs) w) ∙ e))
+          two None w = on (rw w) next e h'
 
   -- from a state that so many steps led to
-  continued_ran : (left steps : ℕ) (st : State) (cells : ℕ) → steps + left ≡ budget → Good st → after s steps (start n us) ≡ some st
+  continued_ran : (left steps : ℕ) (st : State) (cells : ℕ) → steps + left ≡ budget → Good st → after s steps (start n us) ≡ Some st
       → Fitted steps → cells ≡ cells₀ + builds s steps (start n us) → Ok (continued s m left steps st cells)
   unfolding delivered delivered_in
   continued_ran zero steps st cells b h r fit c = one (now st h)
@@ -112,7 +112,7 @@ module _ {file : List ℕ} {s : Program} (P : Passed file s) (n : ℕ) (f : Func
     where
       Later : Type 0
       Later =
-          (next : State) (c' : ℕ) → Good next → after s (suc steps) (start n us) ≡ some next → Fitted (suc steps)
+          (next : State) (c' : ℕ) → Good next → after s (suc steps) (start n us) ≡ Some next → Fitted (suc steps)
           → c' ≡ cells₀ + builds s (suc steps) (start n us) → Ok (continued s m left (suc steps) next c')
 
       one : Now st → Later → Ok (continued s m (suc left) steps st cells)
@@ -167,7 +167,7 @@ module _ (file : List ℕ) (s : Program) (e : checked file ≡ found s) where
           → delivered lent.output (started s (usable lent) budget entry arguments) ≡ answer (refused_with r) 0
       refuses w = ap (delivered lent.output) (started_refused with_arguments s (usable lent) budget entry arguments w)
 
-      three : (f : Function) → function s entry ≡ some f → arguments_right s f arguments ≡ passed → (t : Check)
+      three : (f : Function) → function s entry ≡ Some f → arguments_right s f arguments ≡ passed → (t : Check)
           → fits (usable lent) (start entry (values s arguments)) (cells_loaded s arguments) entry 1 ≡ t → Goal
       three f at_f right (refused r) w =
           let q = fits_refused (usable lent) begin (cells_loaded s arguments) entry 1 w in
@@ -181,15 +181,15 @@ module _ (file : List ℕ) (s : Program) (e : checked file ≡ found s) where
           (began f at_f right typed (started_ran (checked_parts file s e) entry f at_f (values s arguments) typed (usable lent) budget
           lent.output (cells_loaded s arguments) begin refl (fits_found (usable lent) begin (cells_loaded s arguments) entry 1 w)))
 
-      two : (f : Function) → function s entry ≡ some f → (t : Check) → arguments_right s f arguments ≡ t → Goal
+      two : (f : Function) → function s entry ≡ Some f → (t : Check) → arguments_right s f arguments ≡ t → Goal
       two f at_f (refused r) a =
           bad_arguments f at_f r a (refuses (load_bad_arguments with_arguments s (usable lent) entry arguments f at_f a))
       two f at_f (found tt) a =
           three f at_f a (fits (usable lent) (start entry (values s arguments)) (cells_loaded s arguments) entry 1) refl
 
       one : (o : Option Function) → function s entry ≡ o → Goal
-      one none e₁ = no_entry e₁ (refuses (load_no_entry with_arguments s (usable lent) entry arguments e₁))
-      one (some f) e₁ = two f e₁ (arguments_right s f arguments) refl
+      one None e₁ = no_entry e₁ (refuses (load_no_entry with_arguments s (usable lent) entry arguments e₁))
+      one (Some f) e₁ = two f e₁ (arguments_right s f arguments) refl
 
 -- demand 3
 pub tally_promise : TallyPromise

@@ -2,7 +2,7 @@
 use Rattle.std.specs.Prelude.{if◌then◌else◌}
 use mathlib.Core.Path.{◌≡◌, refl, sym, ap, ◌∙◌}
 use mathlib.Core.List.{List, [], ◌∷◌, map, ◌++◌}
-use mathlib.Core.Option.{some}
+use Rattle.std.specs.Prelude.{Some}
 use mathlib.Core.Bool.{Bool, true, false}
 use Prim.Native.Nat.{ℕ, zero, suc, ◌+◌, ◌*◌, ◌≤◌}
 use native.Mathlib.Omega.{arith}
@@ -65,7 +65,7 @@ bound_reached (a ∷ b ∷ more) sizes h = one (leb (bound_at (b ∷ more) sizes
     one true e u = here {x = a} (omega (arith, leb-true (bound_at (b ∷ more) sizes) (value_at sizes a) e))
     one false e u = there (any_map (λ c h. le_trans (omega (arith, leb-false (bound_at (b ∷ more) sizes) (value_at sizes a) e)) h) u)
 
-module _ (s : Program) (light : Light s) (bounded : (g : ℕ) (f : Function) → function s g ≡ some f → 1 ≤ length f.bound)
+module _ (s : Program) (light : Light s) (bounded : (g : ℕ) (f : Function) → function s g ≡ Some f → 1 ≤ length f.bound)
     (sizes : List ℕ) (wide : length sizes ≤ 16) where
   variable_at : (k : ℕ) → value_at sizes (variable_only k) ≡ get_or sizes k 0
   unfolding variable_only
@@ -81,8 +81,8 @@ module _ (s : Program) (light : Light s) (bounded : (g : ℕ) (f : Function) →
   quasis_length nil = refl
   quasis_length (cons t ts) = ap suc (quasis_length ts)
 
-  constructor_at_lem : (c : ℕ) (k : Constructor) → constructor s c ≡ some k → (ns : List ℕ) → length ns ≡ length k.arguments
-      → of_constructor (some k) ns ≡ k.weight + dot (replicate (length k.arguments) 1) ns
+  constructor_at_lem : (c : ℕ) (k : Constructor) → constructor s c ≡ Some k → (ns : List ℕ) → length ns ≡ length k.arguments
+      → of_constructor (Some k) ns ≡ k.weight + dot (replicate (length k.arguments) 1) ns
   constructor_at_lem c k e [] h = omega (arith, light c k e (sym h), dot_ones (length k.arguments) [] h)
   constructor_at_lem c k e (n ∷ ns) h = omega (arith, dot_ones (length k.arguments) (n ∷ ns) h)
 
@@ -134,7 +134,7 @@ module _ (s : Program) (n : ℕ) (f : Function) where
   both : {es : List Expression} → All (Full s) es → All Plain es → All Known es
   both h p = all_both h p
 
-  split_known : (x : Shape) (rest : List Expression) (v c : ℕ) (k : Constructor) → constructor s c ≡ some k → AllKnown x
+  split_known : (x : Shape) (rest : List Expression) (v c : ℕ) (k : Constructor) → constructor s c ≡ Some k → AllKnown x
       → AllKnown (split_variable x rest v c (length k.arguments))
   unfolding split_variable
   split_known x rest v c k ck h =
@@ -151,7 +151,7 @@ module _ (s : Program) (n : ℕ) (f : Function) where
       both (every_replaced (HasArguments s) v new full_new (arguments_stay s v new) (all_map (λ e q. q.0) h))
       (every_replaced Unmade v new plain_new (unmade_stays v new) (all_map (λ e q. q.1) h))
 
-  branch_known_all : (i : ℕ) (x : Shape) (rest : List Expression) (c b : ℕ) (k : Constructor) → constructor s c ≡ some k
+  branch_known_all : (i : ℕ) (x : Shape) (rest : List Expression) (c b : ℕ) (k : Constructor) → constructor s c ≡ Some k
       → (es : List Expression) (M : List (Arrow Shape)) → branch_on s n f i x rest c (length k.arguments) b es ≡ found M → AllKnown x
       → All (Brings AllKnown) M
   branch_known_all i x rest c b k ck [] M e h = absurd (branch_none s n f i x rest c (length k.arguments) b e)
@@ -180,7 +180,7 @@ module _ (s : Program) (n : ℕ) (f : Function) where
   from_known i Return x M e h = rw (← found_inj e) l[]
   from_known i Stop x M e h = rw (← found_inj e) l[]
 
-  parameters_known : (i : ℕ) (x : Shape) → shape_at s n f i ≡ some x → AllKnown x
+  parameters_known : (i : ℕ) (x : Shape) → shape_at s n f i ≡ Some x → AllKnown x
   unfolding start_shape
   parameters_known i x e =
       state_all (shape_rule s n f) (root_at 1 (start_shape f)) f.code (λ _ x. AllKnown x)
@@ -190,7 +190,7 @@ module _ (s : Program) (n : ℕ) (f : Function) where
 
 ---- Definition 3
 
-over_all : (s : Program) (light : Light s) (bounded : (g : ℕ) (f : Function) → function s g ≡ some f → 1 ≤ length f.bound)
+over_all : (s : Program) (light : Light s) (bounded : (g : ℕ) (f : Function) → function s g ≡ Some f → 1 ≤ length f.bound)
     (sizes : List ℕ) (wide : length sizes ≤ 16) {es : List Expression} → All (λ e. Full s e × Plain e) es
     → All2 (Over sizes) (map (quasi s sizes) es) (map (form_of s) es)
 over_all s light bounded sizes wide l[] = a[]
@@ -202,7 +202,7 @@ unfolding covered_at types_right types_of
 size_fact file s e n f at_f i x h sizes wide =
     let P = checked_parts file s e in
     let r = (sizes_accepted P n f at_f).shape_on i x h in
-    let bounded : (g : ℕ) (f : Function) → function s g ≡ some f
+    let bounded : (g : ℕ) (f : Function) → function s g ≡ Some f
     → 1 ≤ length f.bound = λ g f at. (decoded_function P g f at).some_bound in
     let over = over_all s (light P) bounded sizes wide (parameters_known s n f i x h) in
     let pass = judged_found (type_rule s n f) (root_at 1 f.parameters) f.code ((each_from_0 (types_of s) s.functions).0

@@ -1,7 +1,7 @@
 -- Every state that an accepted program reaches is safe: the states of the tally promise.
 use mathlib.Core.Path.{◌≡◌, refl, sym, ◌∙◌}
 use mathlib.Core.List.{List, ◌∷◌}
-use mathlib.Core.Option.{Option, none, some}
+use Rattle.std.specs.Prelude.{Option, None, Some}
 use Prim.Native.Nat.{ℕ, ◌≤◌}
 use Rattle.rules.specs.declared.records.Instruction.{Instruction}
 use Rattle.rules.specs.Program.{Function, Program, function}
@@ -19,11 +19,11 @@ use Rattle.rules.proofs.Sound.{SizedFn, within, entered_sized, GoodSized, GivesS
 use Rattle.rules.proofs.Accepted.{Passed, light, types_stand, types_accepted, sizes_accepted, types_low}
 
 abbrev shapes_at : Program → Option Function → ℕ → ℕ → Option Shape
-shapes_at s none n i = none
-shapes_at s (some f) n i = shape_at s n f i
+shapes_at s None n i = None
+shapes_at s (Some f) n i = shape_at s n f i
 
 -- from an entry function with arguments of the declared types
-module _ {bytes : List ℕ} {s : Program} (P : Passed bytes s) (n : ℕ) (f : Function) (at_f : function s n ≡ some f) (us : List Value)
+module _ {bytes : List ℕ} {s : Program} (P : Passed bytes s) (n : ℕ) (f : Function) (at_f : function s n ≡ Some f) (us : List Value)
     (typed : Typed s us f.parameters) where
   abbrev pub limit : ℕ
   limit = bound_at f.bound (sizes s us)
@@ -37,10 +37,10 @@ module _ {bytes : List ℕ} {s : Program} (P : Passed bytes s) (n : ℕ) (f : Fu
   abbrev sh : ℕ → ℕ → Option Shape
   sh g = shapes_at s (function s g) g
 
-  pub typed_fn : (g : ℕ) (G : Function) → function s g ≡ some G → TypedFn s g G (ty g)
+  pub typed_fn : (g : ℕ) (G : Function) → function s g ≡ Some G → TypedFn s g G (ty g)
   typed_fn g G e = rw e (types_accepted P g G e)
 
-  pub sized_fn : (g : ℕ) (G : Function) → function s g ≡ some G → SizedFn s g G (sh g)
+  pub sized_fn : (g : ℕ) (G : Function) → function s g ≡ Some G → SizedFn s g G (sh g)
   sized_fn g G e = rw e (sizes_accepted P g G e)
 
   abbrev Good : Frame → List Value → Type 0
@@ -49,7 +49,7 @@ module _ {bytes : List ℕ} {s : Program} (P : Passed bytes s) (n : ℕ) (f : Fu
   abbrev pub Gives : ℕ → List Value → Value → Type 0
   Gives g vs v = GivesSized s ty typed_fn sh sized_fn (light P) WithinBound g vs v
 
-  pub does : (fr : Frame) (vs : List Value) → Good fr vs → (ins : Instruction) × (current s fr ≡ some ins) × Done s Good Gives ins fr vs
+  pub does : (fr : Frame) (vs : List Value) → Good fr vs → (ins : Instruction) × (current s fr ≡ Some ins) × Done s Good Gives ins fr vs
   does = does_sized s ty typed_fn sh sized_fn (light P) WithinBound
 
   abbrev pub Invariant : State → Type 0
@@ -68,7 +68,7 @@ module _ {bytes : List ℕ} {s : Program} (P : Passed bytes s) (n : ℕ) (f : Fu
   pub going : (fr : Frame) (frs : List Frame) → Invariant (fr ∷ frs) → Going (fr ∷ frs)
   going fr frs (running {us = vs} k ch) = goes s Good Gives does n us fr vs frs k ch
 
-  pub kept_after : (k : ℕ) (st last : State) → Invariant st → after s k st ≡ some last → Invariant last
+  pub kept_after : (k : ℕ) (st last : State) → Invariant st → after s k st ≡ Some last → Invariant last
   kept_after = progress.kept_after s Good Gives does n us
 
   -- a result is of the function's result type, and within the limit
@@ -77,7 +77,7 @@ module _ {bytes : List ℕ} {s : Program} (P : Passed bytes s) (n : ℕ) (f : Fu
       let same : g.0 ≡ f = some_inj (sym g.1 ∙ at_f) in
       (rw same at g.2, under_bound (sizes s us) (size s v) (rw same at g.3))
 
-  pub result_kept : (st : State) (v : Value) → Invariant st → result_of s st ≡ some v → Has s v f.result × (size s v ≤ limit)
+  pub result_kept : (st : State) (v : Value) → Invariant st → result_of s st ≡ Some v → Has s v f.result × (size s v ≤ limit)
   result_kept st v h e = given v (result_given s Good Gives does n us st v h e)
 
   frame_kept : (fr : Frame) (vs : List Value) → Good fr vs → Kept s limit fr
@@ -98,9 +98,9 @@ module _ {bytes : List ℕ} {s : Program} (P : Passed bytes s) (n : ℕ) (f : Fu
   }
 
 -- every state after any number of steps is safe
-pub states_safe : {file : List ℕ} {s : Program} → Passed file s → (n : ℕ) (f : Function) → function s n ≡ some f → (us : List Value)
+pub states_safe : {file : List ℕ} {s : Program} → Passed file s → (n : ℕ) (f : Function) → function s n ≡ Some f → (us : List Value)
     → Typed s us f.parameters
-    → (k : ℕ) (st : State) → after s k (start n us) ≡ some st → Safe s (bound_at f.bound (sizes s us)) st
+    → (k : ℕ) (st : State) → after s k (start n us) ≡ Some st → Safe s (bound_at f.bound (sizes s us)) st
 states_safe P n f at_f us typed k st r =
     safe P n f at_f us typed st (kept_after P n f at_f us typed k (start n us) st (begins P n f at_f us typed) r)
 
@@ -115,7 +115,7 @@ progress_fact bytes s reads flow types n f at_f us typed k st r = (
     table : ℕ → ℕ → Option (List ℕ)
     table g = worked_out s (function s g) g
 
-    stands : (g : ℕ) (G : Function) → function s g ≡ some G → TypedFn s g G (table g)
+    stands : (g : ℕ) (G : Function) → function s g ≡ Some G → TypedFn s g G (table g)
     stands g G e = rw e (types_stand bytes reads flow types g G e)
 
     Good' : Frame → List Value → Type 0
@@ -124,7 +124,7 @@ progress_fact bytes s reads flow types n f at_f us typed k st r = (
     Gives' : ℕ → List Value → Value → Type 0
     Gives' g vs v = GivesTyped s table stands g vs v
 
-    moves : (fr : Frame) (vs : List Value) → Good' fr vs → (ins : Instruction) × (current s fr ≡ some ins) × Done s Good' Gives' ins fr vs
+    moves : (fr : Frame) (vs : List Value) → Good' fr vs → (ins : Instruction) × (current s fr ≡ Some ins) × Done s Good' Gives' ins fr vs
     moves fr vs h = does_typed s table stands fr vs h
 
     reached : Inv s Good' Gives' moves n us st

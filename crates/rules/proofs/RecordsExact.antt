@@ -2,7 +2,7 @@
 use Rattle.std.specs.Prelude.{if◌then◌else◌}
 use mathlib.Core.Path.{◌≡◌, refl, subst}
 use mathlib.Core.List.{List}
-use mathlib.Core.Option.{Option, none, some}
+use Rattle.std.specs.Prelude.{Option, None, Some}
 use mathlib.Core.Bool.{Bool, true, false, ◌&&◌}
 use mathlib.Core.Logic.{◌↔◌}
 use Prim.Native.Nat.{ℕ, suc, ◌+◌, ◌-◌, ◌≤◌, ◌<◌}
@@ -66,7 +66,7 @@ module _ (bytes : List ℕ) (at : ℕ) where
   alternative_iff n = and_iff (past_iff n (four_at bytes at) refl) (all_iff (λ c. leb c 15) (λ c. leb_iff c 15) (four_at bytes at))
 
 -- what an instruction record says
-says_is : {r : InstructionRecord} {ins : Instruction} → Says r ins → operation r ≡ some ins
+says_is : {r : InstructionRecord} {ins : Instruction} → Says r ins → operation r ≡ Some ins
 unfolding operation
 says_is load = refl
 says_is build = refl
@@ -76,12 +76,12 @@ says_is return = refl
 says_is stop = refl
 
 -- the first choice, or one of the others
-choice : {A Z : Type 0} (t : Bool) (x : A) (others : Option A) {y : A} → ◌≡◌ {A = Option A} (if t then some x else others) (some y)
-    → (t ≡ true → x ≡ y → Z) → (others ≡ some y → Z) → Z
+choice : {A Z : Type 0} (t : Bool) (x : A) (others : Option A) {y : A} → ◌≡◌ {A = Option A} (if t then Some x else others) (Some y)
+    → (t ≡ true → x ≡ y → Z) → (others ≡ Some y → Z) → Z
 choice true x others e p q = p refl (some_inj e)
 choice false x others e p q = q e
 
-operation_says : (o a b : ℕ) {ins : Instruction} → operation (saying o a b) ≡ some ins → Says (saying o a b) ins
+operation_says : (o a b : ℕ) {ins : Instruction} → operation (saying o a b) ≡ Some ins → Says (saying o a b) ins
 unfolding operation
 operation_says o a b e =
     choice _ _ _ e (λ t x. rw x at (one_operand 1 load t)) (λ e.
@@ -101,15 +101,15 @@ operation_says o a b e =
     no_operand n s t = let h = (and_iff (and_iff (eqb_iff o n) (eqb_iff a 0)) (eqb_iff b 0)).0 t in rw (h.0.0, h.0.1, h.1) s
 
 -- an instruction record says just what the decoder reads in it
-pub says_operation : (r : InstructionRecord) (ins : Instruction) → Says r ins ↔ operation r ≡ some ins
+pub says_operation : (r : InstructionRecord) (ins : Instruction) → Says r ins ↔ operation r ≡ Some ins
 says_operation r ins = ((λ s. says_is s), λ e. operation_says r.operation r.a r.b e)
 
 says_iff : (r : InstructionRecord) → is_some (operation r) ≡ true ↔ InstructionIn r
 says_iff r = (found_in (operation r) refl, λ s. rw ((says_operation r s.0).0 s.1))
   where
     found_in : (o : Option Instruction) → operation r ≡ o → is_some o ≡ true → InstructionIn r
-    found_in none e t = absurd (false_true t)
-    found_in (some ins) e t = (ins, (says_operation r ins).1 e)
+    found_in None e t = absurd (false_true t)
+    found_in (Some ins) e t = (ins, (says_operation r ins).1 e)
 
 ---- An item
 

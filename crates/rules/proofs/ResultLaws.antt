@@ -1,7 +1,7 @@
 -- A result's length fits 32 bits: it is at most 1 and four times its size, which the size bound keeps small.
 use mathlib.Core.Path.{◌≡◌, refl, sym, ap, ◌∙◌}
 use mathlib.Core.List.{List, [], ◌∷◌, ◌++◌}
-use mathlib.Core.Option.{Option, none, some}
+use Rattle.std.specs.Prelude.{Option, None, Some}
 use Prim.Native.Nat.{ℕ, suc, ◌+◌, ◌*◌, ◌≤◌, ◌<◌, zero-le}
 use native.Mathlib.Omega.{arith}
 use native.Mathlib.Nat.{le_trans, max-le}
@@ -37,8 +37,8 @@ bound_small (a ∷ bound) zs K (h l∷ hs) = max-le h (bound_small bound zs K hs
 module _ (s : Program) where
   -- the weights of a program: at most 255, and with arguments, which are at most four, at least 1
   record Weights : Type 0 where
-    most : (c : ℕ) (k : Constructor) → constructor s c ≡ some k → k.weight ≤ 255
-    least : (c : ℕ) (k : Constructor) → constructor s c ≡ some k → length k.arguments ≤ 4 * k.weight
+    most : (c : ℕ) (k : Constructor) → constructor s c ≡ Some k → k.weight ≤ 255
+    least : (c : ℕ) (k : Constructor) → constructor s c ≡ Some k → length k.arguments ≤ 4 * k.weight
 
   module _ (W : Weights) where
     size_most : (c : ℕ) (vs : Trees ℕ) → size s (node c vs) ≤ 255 + size_of_all s vs
@@ -47,8 +47,8 @@ module _ (s : Program) where
       where
         one : (o : Option Constructor) → constructor s c ≡ o
             → weighted o (cons v vs) (size s v + size_of_all s vs) ≤ 255 + (size s v + size_of_all s vs)
-        one none e = omega arith
-        one (some k) e = omega (arith, W.most c k e)
+        one None e = omega arith
+        one (Some k) e = omega (arith, W.most c k e)
 
     -- each byte weighs at most 255
     values_small : (bytes : List ℕ) → total (sizes s (values s bytes)) ≤ 255 * length bytes
@@ -68,7 +68,7 @@ module _ (s : Program) where
             omega (arith, size_most c (from_list (take n later)))
 
     -- what is written of a typed value
-    node_small : (c : ℕ) (vs : Trees ℕ) (k : Constructor) → constructor s c ≡ some k
+    node_small : (c : ℕ) (vs : Trees ℕ) (k : Constructor) → constructor s c ≡ Some k
         → length (written_all vs) ≤ length k.arguments + 4 * size_of_all s vs → length (written (node c vs)) ≤ 1 + 4 * size s (node c vs)
     unfolding written
     node_small c nil k e h = omega arith
@@ -97,7 +97,7 @@ module _ {bytes : List ℕ} {s : Program} (P : Passed bytes s) (small : All (λ 
       → value_at zs a ≤ 65535 + 15 * total zs
   alternative_small zs a d = omega (arith, dot_most a.coefficients zs d.0, d.1)
 
-  limit_small : (n : ℕ) (f : Function) → function s n ≡ some f → (args : List ℕ) → length args ≤ 65535
+  limit_small : (n : ℕ) (f : Function) → function s n ≡ Some f → (args : List ℕ) → length args ≤ 65535
       → bound_at f.bound (sizes s (values s args)) ≤ 250736910
   limit_small n f e args h =
       le_trans (bound_small f.bound (sizes s (values s args)) (65535 + 15 * total (sizes s (values s args)))

@@ -1,7 +1,7 @@
 -- With more room in the tables a run that did not end for want of it ends the same: each test that passed passes again.
 use mathlib.Core.Path.{◌≡◌, refl, sym, ap, ◌∙◌}
 use mathlib.Core.List.{List, [], ◌∷◌}
-use mathlib.Core.Option.{Option, none, some}
+use Rattle.std.specs.Prelude.{Option, None, Some}
 use mathlib.Core.Logic.{◌⊎◌, inl, inr}
 use Prim.Native.Nat.{ℕ, zero, suc, ◌+◌, ◌≤◌}
 use native.Mathlib.Omega.{arith}
@@ -67,7 +67,7 @@ module _ (s : Program) (m w : Tables) (wider : Wider m w) where
   step_same [] cells = inl refl
   step_same (fr ∷ others) cells = one (step s (fr ∷ others)) refl
     where
-      two : (next : State) → step s (fr ∷ others) ≡ some next
+      two : (next : State) → step s (fr ∷ others) ≡ Some next
           → Same (fits m next (cells + cells_taken s (current s fr)) fr.function fr.instruction)
           (fits w next (cells + cells_taken s (current s fr)) fr.function fr.instruction)
           → Same (step_within s m (fr ∷ others) cells) (step_within s w (fr ∷ others) cells)
@@ -75,17 +75,17 @@ module _ (s : Program) (m w : Tables) (wider : Wider m w) where
       two next e (inr (r, h, short)) = inr (r, rw (e, h), short)
 
       one : (o : Option State) → step s (fr ∷ others) ≡ o → Same (step_within s m (fr ∷ others) cells) (step_within s w (fr ∷ others) cells)
-      one none e = inl (rw e)
-      one (some next) e = two next e (fits_same next (cells + cells_taken s (current s fr)) fr.function fr.instruction)
+      one None e = inl (rw e)
+      one (Some next) e = two next e (fits_same next (cells + cells_taken s (current s fr)) fr.function fr.instruction)
 
   continued_same : (left steps : ℕ) (st : State) (cells : ℕ) → EndsElse (continued s m left steps st cells).ending
       → continued s w left steps st cells ≡ continued s m left steps st cells
   continued_same zero steps st cells h = one (end_of s st) refl
     where
       one : (o : Option (Ending (List ℕ))) → end_of s st ≡ o → continued s w zero steps st cells ≡ continued s m zero steps st cells
-      one (some e) o =
+      one (Some e) o =
           continued_ended with_arguments s w zero steps st cells o ∙ sym (continued_ended with_arguments s m zero steps st cells o)
-      one none o = continued_spent with_arguments s w steps st cells o ∙ sym (continued_spent with_arguments s m steps st cells o)
+      one None o = continued_spent with_arguments s w steps st cells o ∙ sym (continued_spent with_arguments s m steps st cells o)
   continued_same (suc left) steps st cells h =
       one (λ p h'. continued_same left (suc steps) p.0 p.1 h') (end_of s st) refl
     where
@@ -96,29 +96,29 @@ module _ (s : Program) (m w : Tables) (wider : Wider m w) where
       Goal : Type 0
       Goal = continued s w (suc left) steps st cells ≡ continued s m (suc left) steps st cells
 
-      two : Later → end_of s st ≡ none → (t : Tried Point) → step_within s m st cells ≡ t → step_within s w st cells ≡ t → Goal
+      two : Later → end_of s st ≡ None → (t : Tried Point) → step_within s m st cells ≡ t → step_within s w st cells ≡ t → Goal
       two ih o (found p) e e' =
           let on = continued_on_lem with_arguments s m left steps st cells o e in
           continued_on_lem with_arguments s w left steps st cells o e' ∙ ih p (rw on at h) ∙ sym on
       two ih o (refused r) e e' =
           continued_short with_arguments s w left steps st cells o e' ∙ sym (continued_short with_arguments s m left steps st cells o e)
 
-      three : Later → end_of s st ≡ none → Same (step_within s m st cells) (step_within s w st cells) → Goal
+      three : Later → end_of s st ≡ None → Same (step_within s m st cells) (step_within s w st cells) → Goal
       three ih o (inl same) = two ih o (step_within s m st cells) refl same
       three ih o (inr (r, e, short)) =
           let ends = continued_short with_arguments s m left steps st cells o e in
           absurd (short (h r (ap (λ (a : Outcome). a.ending) ends)))
 
       one : Later → (o : Option (Ending (List ℕ))) → end_of s st ≡ o → Goal
-      one ih (some e) o =
+      one ih (Some e) o =
           continued_ended with_arguments s w (suc left) steps st cells o
           ∙ sym (continued_ended with_arguments s m (suc left) steps st cells o)
-      one ih none o = three ih o (step_same st cells)
+      one ih None o = three ih o (step_same st cells)
 
   loaded_same : (entry : ℕ) (bytes : List ℕ) → Same (loaded s m entry bytes) (loaded s w entry bytes)
   loaded_same entry bytes = one (function s entry) refl
     where
-      three : (f : Function) → function s entry ≡ some f → arguments_right s f bytes ≡ passed
+      three : (f : Function) → function s entry ≡ Some f → arguments_right s f bytes ≡ passed
           → (t : Check) → fits m (start entry (values s bytes)) (cells_loaded s bytes) entry 1 ≡ t
           → Same t (fits w (start entry (values s bytes)) (cells_loaded s bytes) entry 1)
           → Same (loaded s m entry bytes) (loaded s w entry bytes)
@@ -128,7 +128,7 @@ module _ (s : Program) (m w : Tables) (wider : Wider m w) where
           inl (load_no_room with_arguments s w entry bytes f e a same ∙ sym (load_no_room with_arguments s m entry bytes f e a h))
       three f e a t h (inr (r, k, short)) = inr (r, load_no_room with_arguments s m entry bytes f e a (h ∙ k), short)
 
-      two : (f : Function) → function s entry ≡ some f → (t : Check) → arguments_right s f bytes ≡ t
+      two : (f : Function) → function s entry ≡ Some f → (t : Check) → arguments_right s f bytes ≡ t
           → Same (loaded s m entry bytes) (loaded s w entry bytes)
       two f e (refused r) a =
           inl (load_bad_arguments with_arguments s w entry bytes f e a ∙ sym (load_bad_arguments with_arguments s m entry bytes f e a))
@@ -137,8 +137,8 @@ module _ (s : Program) (m w : Tables) (wider : Wider m w) where
           (fits_same (start entry (values s bytes)) (cells_loaded s bytes) entry 1)
 
       one : (o : Option Function) → function s entry ≡ o → Same (loaded s m entry bytes) (loaded s w entry bytes)
-      one none e = inl (load_no_entry with_arguments s w entry bytes e ∙ sym (load_no_entry with_arguments s m entry bytes e))
-      one (some f) e = two f e (arguments_right s f bytes) refl
+      one None e = inl (load_no_entry with_arguments s w entry bytes e ∙ sym (load_no_entry with_arguments s m entry bytes e))
+      one (Some f) e = two f e (arguments_right s f bytes) refl
 
   started_same : (budget entry : ℕ) (bytes : List ℕ) → EndsElse (started s m budget entry bytes).ending
       → started s w budget entry bytes ≡ started s m budget entry bytes

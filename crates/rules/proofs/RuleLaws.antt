@@ -2,7 +2,7 @@
 use Rattle.std.specs.Prelude.{if◌then◌else◌}
 use mathlib.Core.Path.{◌≡◌, refl, sym, ap, ◌∙◌}
 use mathlib.Core.List.{List, [], ◌∷◌, ◌++◌, map}
-use mathlib.Core.Option.{some, Option}
+use Rattle.std.specs.Prelude.{Some, Option}
 use mathlib.Core.Bool.{Bool, true, false, not, ◌&&◌, ◌||◌}
 use Prim.Native.Nat.{ℕ, suc, ◌+◌, ◌≤◌, ◌<◌}
 use native.Mathlib.Omega.{arith}
@@ -39,24 +39,24 @@ module _ (s : Program) (n : ℕ) (f : Function) where
   next_found i stack e = sym (found_inj (after_required (leb (length stack) 16) _ _ e).1)
 
   below_found : (i : ℕ) (types stack : List ℕ) {rest : List ℕ} → below s n f i types stack ≡ found rest
-      → split (length types) stack ≡ some (rest, types)
+      → split (length types) stack ≡ Some (rest, types)
   unfolding below
   below_found i types stack e =
       let a = after_some (split (length types) stack) _ _ e in
       let b = after_required (same a.0.1 types) _ _ a.2 in
       let p : a.0.1 ≡ types = same_true _ _ b.0 in
       let q = found_inj b.1 in
-      a.1 ∙ ap some (pair_path q p)
+      a.1 ∙ ap Some (pair_path q p)
 
   pub type_load : (i a : ℕ) (ts : List ℕ) {M : List (Arrow (List ℕ))} → type_rule s n f i (Load a) ts ≡ found M → (t : ℕ)
-      × (slot a ts ≡ some t) × (M ≡ (suc i, push ts t) ∷ [])
+      × (slot a ts ≡ Some t) × (M ≡ (suc i, push ts t) ∷ [])
   unfolding type_rule
   type_load i a ts e =
       let b = after_some (slot a ts) _ _ e in
       (b.0, b.1, next_found i (push ts b.0) b.2)
 
   pub type_build : (i c : ℕ) (ts : List ℕ) {M : List (Arrow (List ℕ))} → type_rule s n f i (Build c) ts ≡ found M
-      → (k : Constructor) × (constructor s c ≡ some k) × (rest : List ℕ) × (split (length k.arguments) ts ≡ some (rest, k.arguments))
+      → (k : Constructor) × (constructor s c ≡ Some k) × (rest : List ℕ) × (split (length k.arguments) ts ≡ Some (rest, k.arguments))
       × (M ≡ (suc i, push rest k.result) ∷ [])
   unfolding type_rule
   type_build i c ts e =
@@ -65,7 +65,7 @@ module _ (s : Program) (n : ℕ) (f : Function) where
       (b.0, b.1, r.0, below_found i b.0.arguments ts r.1, next_found i (push r.0 b.0.result) r.2)
 
   pub type_call : (i g : ℕ) (ts : List ℕ) {M : List (Arrow (List ℕ))} → type_rule s n f i (Call g) ts ≡ found M
-      → (k : Function) × (function s g ≡ some k) × (rest : List ℕ) × (split (length k.parameters) ts ≡ some (rest, k.parameters))
+      → (k : Function) × (function s g ≡ Some k) × (rest : List ℕ) × (split (length k.parameters) ts ≡ Some (rest, k.parameters))
       × (M ≡ (suc i, push rest k.result) ∷ [])
   unfolding type_rule
   type_call i g ts e =
@@ -74,7 +74,7 @@ module _ (s : Program) (n : ℕ) (f : Function) where
       (b.0, b.1, r.0, below_found i b.0.parameters ts r.1, next_found i (push r.0 b.0.result) r.2)
 
   pub type_branch : (i c b : ℕ) (ts : List ℕ) {M : List (Arrow (List ℕ))} → type_rule s n f i (Branch c b) ts ≡ found M
-      → (k : Constructor) × (constructor s c ≡ some k) × (rest : List ℕ) × (split 1 ts ≡ some (rest, k.result ∷ []))
+      → (k : Constructor) × (constructor s c ≡ Some k) × (rest : List ℕ) × (split 1 ts ≡ Some (rest, k.result ∷ []))
       × (M ≡ (suc i, rest ++ k.arguments) ∷ (b, ts) ∷ [])
   unfolding type_rule
   type_branch i c b ts e =
@@ -90,7 +90,7 @@ module _ (s : Program) (n : ℕ) (f : Function) where
       )
 
   pub type_return : (i : ℕ) (ts : List ℕ) {M : List (Arrow (List ℕ))} → type_rule s n f i Return ts ≡ found M → (rest : List ℕ)
-      × (split 1 ts ≡ some (rest, f.result ∷ [])) × (M ≡ [])
+      × (split 1 ts ≡ Some (rest, f.result ∷ [])) × (M ≡ [])
   unfolding type_rule
   type_return i ts e =
       let r = bind_found (below s n f i (f.result ∷ []) ts) _ e in
@@ -138,14 +138,14 @@ module _ (s : Program) (n : ℕ) (f : Function) where
   shape_covered i ins sh e = after_required (covered_at s sh) _ _ e
 
   pub shape_load : (i a : ℕ) (sh : Shape) {M : List (Arrow Shape)} → shape_from s n f i (Load a) sh ≡ found M → (e : Expression)
-      × (slot a sh.stack ≡ some e) × (M ≡ (suc i, with_stack sh (push sh.stack e)) ∷ [])
+      × (slot a sh.stack ≡ Some e) × (M ≡ (suc i, with_stack sh (push sh.stack e)) ∷ [])
   unfolding shape_from
   shape_load i a sh e =
       let b = after_some (slot a sh.stack) _ _ e in
       (b.0, b.1, sym (found_inj b.2))
 
   enter_found : (i : ℕ) (sh : Shape) (args : ℕ) (y : Symbol) {M : List (Arrow Shape)} → enter s n f i sh args y ≡ found M
-      → (p : List Expression × List Expression) × (split args sh.stack ≡ some p)
+      → (p : List Expression × List Expression) × (split args sh.stack ≡ Some p)
       × (M ≡ (suc i, with_stack sh (push p.0 (made y p.1))) ∷ []) × (length (form_of s (made y p.1)) ≤ 16)
   unfolding enter
   enter_found i sh args y e =
@@ -154,8 +154,8 @@ module _ (s : Program) (n : ℕ) (f : Function) where
       (a.0, a.1, sym (found_inj b.1), leb-true _ _ b.0)
 
   pub shape_build : (i c : ℕ) (sh : Shape) {M : List (Arrow Shape)} → shape_from s n f i (Build c) sh ≡ found M
-      → (k : Constructor) × (constructor s c ≡ some k) × (p : List Expression × List Expression)
-      × (split (length k.arguments) sh.stack ≡ some p)
+      → (k : Constructor) × (constructor s c ≡ Some k) × (p : List Expression × List Expression)
+      × (split (length k.arguments) sh.stack ≡ Some p)
       × (M ≡ (suc i, with_stack sh (push p.0 (made (built c) p.1))) ∷ []) × (length (form_of s (made (built c) p.1)) ≤ 16)
   unfolding shape_from
   shape_build i c sh e =
@@ -164,8 +164,8 @@ module _ (s : Program) (n : ℕ) (f : Function) where
       (b.0, b.1, r.0, r.1, r.2, r.3)
 
   pub shape_call : (i g : ℕ) (sh : Shape) {M : List (Arrow Shape)} → shape_from s n f i (Call g) sh ≡ found M
-      → (k : Function) × (function s g ≡ some k) × (p : List Expression × List Expression)
-      × (split (length k.parameters) sh.stack ≡ some p)
+      → (k : Function) × (function s g ≡ Some k) × (p : List Expression × List Expression)
+      × (split (length k.parameters) sh.stack ≡ Some p)
       × (M ≡ (suc i, with_stack sh (push p.0 (made (called g) p.1))) ∷ []) × (length (form_of s (made (called g) p.1)) ≤ 16)
   unfolding shape_from
   shape_call i g sh e =
@@ -174,7 +174,7 @@ module _ (s : Program) (n : ℕ) (f : Function) where
       (b.0, b.1, r.0, r.1, r.2, r.3)
 
   pub shape_branch : (i c b : ℕ) (sh : Shape) {M : List (Arrow Shape)} → shape_from s n f i (Branch c b) sh ≡ found M
-      → (k : Constructor) × (constructor s c ≡ some k) × (p : List Expression × List Expression) × (split 1 sh.stack ≡ some p)
+      → (k : Constructor) × (constructor s c ≡ Some k) × (p : List Expression × List Expression) × (split 1 sh.stack ≡ Some p)
       × (branch_on s n f i sh p.0 c (length k.arguments) b p.1 ≡ found M)
   unfolding shape_from
   shape_branch i c b sh e =

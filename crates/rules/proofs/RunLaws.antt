@@ -1,7 +1,7 @@
 -- The run one decision at a time: what is loaded, one law for each way in which it ends or goes on.
 use mathlib.Core.Path.{◌≡◌, refl, sym, ap, ◌∙◌}
 use mathlib.Core.List.{List, [], ◌∷◌}
-use mathlib.Core.Option.{none, some}
+use Rattle.std.specs.Prelude.{None, Some}
 use mathlib.Core.Bool.{Bool, true, false}
 use mathlib.Core.Logic.{◌⊎◌, inl, inr}
 use Prim.Native.Nat.{ℕ, zero, suc, ◌+◌, ◌≤◌, ◌<◌}
@@ -53,7 +53,7 @@ Stepping rule s m st cells next =
     ⊎ ((number : ℕ) × NoRoom m next (cells + takes_by rule s st) number
     × (step_within_by rule s m st cells ≡ refused (refusal_at number st)))
 
-pub step_within_lem : (rule : CellRule) (s : Program) (m : Tables) (st : State) (cells : ℕ) (next : State) → step s st ≡ some next
+pub step_within_lem : (rule : CellRule) (s : Program) (m : Tables) (st : State) (cells : ℕ) (next : State) → step s st ≡ Some next
     → Stepping rule s m st cells next
 unfolding step_within_by step refusal_at
 step_within_lem rule s m [] cells next e = none_some e
@@ -72,24 +72,24 @@ step_within_lem rule s m (fr ∷ frs) cells next e = one (fits m next cells' fr.
 ---- The rest of a run
 
 module _ (rule : CellRule) (s : Program) (m : Tables) where
-  pub continued_ended : (left steps : ℕ) (st : State) (cells : ℕ) {e : Ending (List ℕ)} → end_of s st ≡ some e
+  pub continued_ended : (left steps : ℕ) (st : State) (cells : ℕ) {e : Ending (List ℕ)} → end_of s st ≡ Some e
       → continued_by rule s m left steps st cells ≡ answer e steps
   unfolding continued_by
   continued_ended zero steps st cells h = rw (h, continued_by)
   continued_ended (suc left) steps st cells h = rw (h, continued_by)
 
-  pub continued_spent : (steps : ℕ) (st : State) (cells : ℕ) → end_of s st ≡ none
+  pub continued_spent : (steps : ℕ) (st : State) (cells : ℕ) → end_of s st ≡ None
       → continued_by rule s m zero steps st cells ≡ answer (refused_with (refusal_at 14 st)) steps
   unfolding continued_by
   continued_spent steps st cells h = rw (h, continued_by)
 
-  pub continued_short : (left steps : ℕ) (st : State) (cells : ℕ) {r : Refusal} → end_of s st ≡ none
+  pub continued_short : (left steps : ℕ) (st : State) (cells : ℕ) {r : Refusal} → end_of s st ≡ None
       → step_within_by rule s m st cells ≡ refused r
       → continued_by rule s m (suc left) steps st cells ≡ answer (refused_with r) steps
   unfolding continued_by
   continued_short left steps st cells h w = rw (h, continued_by, w)
 
-  pub continued_on_lem : (left steps : ℕ) (st : State) (cells : ℕ) {p : Point} → end_of s st ≡ none
+  pub continued_on_lem : (left steps : ℕ) (st : State) (cells : ℕ) {p : Point} → end_of s st ≡ None
       → step_within_by rule s m st cells ≡ found p
       → continued_by rule s m (suc left) steps st cells ≡ continued_by rule s m left (suc steps) p.0 p.1
   unfolding continued_by
@@ -110,11 +110,11 @@ unfolding started_by
 started_loaded rule s m budget entry args e = rw (e, started_by)
 
 module _ (rule : CellRule) (s : Program) (m : Tables) (entry : ℕ) (bytes : List ℕ) where
-  pub load_no_entry : function s entry ≡ none → loaded_by rule s m entry bytes ≡ refused (refusal 11 entry 0)
+  pub load_no_entry : function s entry ≡ None → loaded_by rule s m entry bytes ≡ refused (refusal 11 entry 0)
   unfolding loaded_by
   load_no_entry e = rw e
 
-  module _ (f : Function) (e : function s entry ≡ some f) where
+  module _ (f : Function) (e : function s entry ≡ Some f) where
     pub load_bad_arguments : {r : Refusal} → arguments_right s f bytes ≡ refused r → loaded_by rule s m entry bytes ≡ refused r
     unfolding loaded_by
     load_bad_arguments a = rw (e, a)

@@ -2,7 +2,7 @@
 use Rattle.std.specs.Prelude.{if◌then◌else◌}
 use mathlib.Core.Path.{◌≡◌, refl, sym, ap, ◌∙◌}
 use mathlib.Core.List.{List, [], ◌∷◌, ◌++◌, map}
-use mathlib.Core.Option.{Option, none, some}
+use Rattle.std.specs.Prelude.{Option, None, Some}
 use mathlib.Core.Bool.{Bool, true, false}
 use mathlib.Core.Logic.{◌⊎◌, inl, inr}
 use Prim.Native.Nat.{ℕ, suc, ◌+◌, ◌-◌, ◌≤◌, ◌<◌}
@@ -94,7 +94,7 @@ module _ (s : Program) (n : ℕ) (f : Function) where
 ---- From Table 3 to the rule
 
 module _ (s : Program) (n : ℕ) (f : Function) (S : ℕ → Option Shape) where
-  branch_passes : (i c b : ℕ) (x : Shape) (k : Constructor) → constructor s c ≡ some k → (rest : List Expression) (p : Expression)
+  branch_passes : (i c b : ℕ) (x : Shape) (k : Constructor) → constructor s c ≡ Some k → (rest : List Expression) (p : Expression)
       → x.stack ≡ push rest p → branch_on_lem s n f S i x rest c (length k.arguments) b p
       → (M : List (Arrow Shape)) × (shape_from s n f i (Branch c b) x ≡ found M) × All (LeadsOn S) M
   branch_passes i c b x k ck rest p e w = one p (branch_shaped s n f i c b x ck (rw e (split_append rest (p ∷ [])))) w
@@ -143,8 +143,8 @@ module _ (s : Program) (n : ℕ) (f : Function) (S : ℕ → Option Shape) where
   from_passes i Return x w = ([], return_shaped s n f i x, l[])
   from_passes i Stop x w = ([], stop_shaped s n f i x, l[])
 
-  rule_passes : (m : ℕ) → SizedBefore s n f S m → (i : ℕ) (ins : Instruction) → i < m → slot i f.code ≡ some ins → (x : Shape)
-      → S i ≡ some x → Passes (shape_rule s n f) S i ins x
+  rule_passes : (m : ℕ) → SizedBefore s n f S m → (i : ℕ) (ins : Instruction) → i < m → slot i f.code ≡ Some ins → (x : Shape)
+      → S i ≡ Some x → Passes (shape_rule s n f) S i ins x
   rule_passes m W i ins lt c x e =
       let r = from_passes i ins x (W.instructions i ins lt c x e) in
       (r.0, rule_covered s n f i ins x ((covered_iff s x).1 (W.covered i ins lt c x e)) ∙ r.1, r.2)
@@ -183,11 +183,11 @@ module _ (s : Program) (n : ℕ) (f : Function) (S : ℕ → Option Shape) where
 
 ---- Behind 7 and 8 the rule says neither again
 
-split_there : {A : Type 0} (k : ℕ) (xs : List A) → k ≤ length xs → (p : List A × List A) × (split k xs ≡ some p)
+split_there : {A : Type 0} (k : ℕ) (xs : List A) → k ≤ length xs → (p : List A × List A) × (split k xs ≡ Some p)
 unfolding split
 split_there k xs h = ((take (length xs - k) xs, drop (length xs - k) xs), rw (le-leb k (length xs) h))
 
-split_length : {A : Type 0} (k : ℕ) (xs : List A) {p : List A × List A} → split k xs ≡ some p → (length p.0 ≡ length xs - k)
+split_length : {A : Type 0} (k : ℕ) (xs : List A) {p : List A × List A} → split k xs ≡ Some p → (length p.0 ≡ length xs - k)
     × (k ≤ length xs) × (length p.1 ≡ k)
 split_length k xs {p} e =
     let c = cut k xs p.0 p.1 e in
@@ -195,16 +195,16 @@ split_length k xs {p} e =
     (omega (arith, l, c.1), omega (arith, l, c.1), c.1)
 
 module _ (s : Program) (n : ℕ) (f : Function) (flow : FlowsRightly n f)
-    (typed : (i : ℕ) (ins : Instruction) → slot i f.code ≡ some ins → (ts : List ℕ) → types_at s n f i ≡ some ts
+    (typed : (i : ℕ) (ins : Instruction) → slot i f.code ≡ Some ins → (ts : List ℕ) → types_at s n f i ≡ Some ts
     → (M : List (Arrow (List ℕ))) × (type_rule s n f i ins ts ≡ found M)) where
   -- the entries are as many as the types worked out
   pub record Matched (i : ℕ) (x : Shape) : Type 0 where
     types : List ℕ
-    worked_out_lem : types_at s n f i ≡ some types
+    worked_out_lem : types_at s n f i ≡ Some types
     height : length x.stack ≡ length types
     pub full : All (Full s) x.stack
 
-  type_leads : (i : ℕ) (ins : Instruction) → slot i f.code ≡ some ins → (ts : List ℕ) → types_at s n f i ≡ some ts
+  type_leads : (i : ℕ) (ins : Instruction) → slot i f.code ≡ Some ins → (ts : List ℕ) → types_at s n f i ≡ Some ts
       → (M : List (Arrow (List ℕ))) → type_rule s n f i ins ts ≡ found M → All (LeadsOn (types_at s n f)) M
   type_leads i ins c ts e M r =
       state_leads (type_rule s n f) f.parameters f.code flow.tree (λ i ins x M e j. le_of_eq (type_all s n f i ins x M e j)) i ins c
@@ -216,8 +216,8 @@ module _ (s : Program) (n : ℕ) (f : Function) (flow : FlowsRightly n f)
 
   -- a new entry over as many as the types taken
   entered : (i args : ℕ) (x : Shape) (m : Matched i x) (rest : List ℕ) (taken : List ℕ) (t : ℕ) (p : List Expression × List Expression)
-      (symbol : Symbol) → HasArguments s symbol (from_list p.1) → split args x.stack ≡ some p
-      → split args m.types ≡ some (rest, taken) → types_at s n f (suc i) ≡ some (push rest t)
+      (symbol : Symbol) → HasArguments s symbol (from_list p.1) → split args x.stack ≡ Some p
+      → split args m.types ≡ Some (rest, taken) → types_at s n f (suc i) ≡ Some (push rest t)
       → Matched (suc i) (with_stack x (push p.0 (made symbol p.1)))
   entered i args x m rest taken t p symbol fills e e' on =
       let a = split_length args x.stack e in
@@ -231,9 +231,9 @@ module _ (s : Program) (n : ℕ) (f : Function) (flow : FlowsRightly n f)
         full = all_append q.0 (◌l∷◌ {x = made symbol p.1} (fills, every_trees (HasArguments s) q.1) l[]);
       }
 
-  module _ (i c b : ℕ) (x : Shape) (m : Matched i x) (k : Constructor) (ck : constructor s c ≡ some k) (rest : List ℕ)
-      (p : List Expression × List Expression) (e : split 1 x.stack ≡ some p) (e' : split 1 m.types ≡ some (rest, k.result ∷ []))
-      (on : types_at s n f (suc i) ≡ some (rest ++ k.arguments)) (off : types_at s n f b ≡ some m.types) where
+  module _ (i c b : ℕ) (x : Shape) (m : Matched i x) (k : Constructor) (ck : constructor s c ≡ Some k) (rest : List ℕ)
+      (p : List Expression × List Expression) (e : split 1 x.stack ≡ Some p) (e' : split 1 m.types ≡ Some (rest, k.result ∷ []))
+      (on : types_at s n f (suc i) ≡ Some (rest ++ k.arguments)) (off : types_at s n f b ≡ Some m.types) where
     under : length p.0 ≡ length rest
     under = (split_length 1 x.stack e).0 ∙ rw m.height (sym (split_length 1 m.types e').0)
 
@@ -284,11 +284,11 @@ module _ (s : Program) (n : ℕ) (f : Function) (flow : FlowsRightly n f)
     branch_matched (node (built d) ts ∷ []) l h M r = absurd (branch_built s n f i x p.0 c (length k.arguments) b d ts [] r)
     branch_matched (node (called g) ts ∷ []) l h M r = absurd (branch_called s n f i x p.0 c (length k.arguments) b g ts [] r)
 
-  taken : (args : ℕ) (xs : List Expression) {p : List Expression × List Expression} → split args xs ≡ some p
+  taken : (args : ℕ) (xs : List Expression) {p : List Expression × List Expression} → split args xs ≡ Some p
       → length (to_list (from_list p.1)) ≡ args
   taken args xs {p} e = ap length (to_from p.1) ∙ (split_length args xs e).2
 
-  from_matched : (i : ℕ) (ins : Instruction) → slot i f.code ≡ some ins → (x : Shape) → Matched i x → (M : List (Arrow Shape))
+  from_matched : (i : ℕ) (ins : Instruction) → slot i f.code ≡ Some ins → (x : Shape) → Matched i x → (M : List (Arrow Shape))
       → shape_from s n f i ins x ≡ found M → All (BringsAt Matched) M
   unfolding shape_from
   from_matched i (Load a) c x m M r =
@@ -331,13 +331,13 @@ module _ (s : Program) (n : ℕ) (f : Function) (flow : FlowsRightly n f)
   from_matched i Return c x m M r = rw (← found_inj r) l[]
   from_matched i Stop c x m M r = rw (← found_inj r) l[]
 
-  pub matched : (i : ℕ) (x : Shape) → shape_at s n f i ≡ some x → Matched i x
+  pub matched : (i : ℕ) (x : Shape) → shape_at s n f i ≡ Some x → Matched i x
   unfolding start_shape
   matched i x e =
       state_all (shape_rule s n f) (root_at 1 (start_shape f)) f.code Matched (λ j y q. begin j y q)
       (λ i ins c y w M r m. from_matched i ins c y m M (shape_covered s n f i ins y r).1) i x e
     where
-      begin : (j : ℕ) (y : Shape) → root_at 1 (start_shape f) j ≡ some y → Matched j y
+      begin : (j : ℕ) (y : Shape) → root_at 1 (start_shape f) j ≡ Some y → Matched j y
       begin j y q =
           let r = root_start (shape_rule s n f) (start_shape f) f.code j y q in
           rw (← r.0, ← r.1) (record {
@@ -360,7 +360,7 @@ module _ (s : Program) (n : ℕ) (f : Function) (flow : FlowsRightly n f)
       let q = found_required (leb (length (form_of s (made symbol p.0.1))) 16) (refusal 9 n i) _ (rw p.1 at e) in
       (sym q.1, (p.0.0, p.0.1, c.1, c.0, leb-false _ _ q.0))
 
-  branch_refused : (i c b : ℕ) (x : Shape) (k : Constructor) → constructor s c ≡ some k → (rest tops : List Expression) → length tops ≡ 1
+  branch_refused : (i c b : ℕ) (x : Shape) (k : Constructor) → constructor s c ≡ Some k → (rest tops : List Expression) → length tops ≡ 1
       → x.stack ≡ rest ++ tops → All Plain tops → {r : Refusal} → branch_on s n f i x rest c (length k.arguments) b tops ≡ refused r
       → Nine i (Branch c b) x r
   unfolding branch_on
@@ -373,7 +373,7 @@ module _ (s : Program) (n : ℕ) (f : Function) (flow : FlowsRightly n f)
   branch_refused i c b x k ck rest (node (built d) ts ∷ []) l w (h l∷ l[]) e = absurd h.0
   branch_refused i c b x k ck rest (node (called g) ts ∷ []) l w (h l∷ l[]) e = absurd h.0
 
-  from_refused : (i : ℕ) (ins : Instruction) → slot i f.code ≡ some ins → (x : Shape) → shape_at s n f i ≡ some x → {r : Refusal}
+  from_refused : (i : ℕ) (ins : Instruction) → slot i f.code ≡ Some ins → (x : Shape) → shape_at s n f i ≡ Some x → {r : Refusal}
       → shape_from s n f i ins x ≡ refused r → Nine i ins x r
   unfolding shape_from
   from_refused i (Load a) c x at_x e =
@@ -411,14 +411,14 @@ module _ (s : Program) (n : ℕ) (f : Function) (flow : FlowsRightly n f)
 ---- Exactly
 
 module _ (s : Program) (n : ℕ) (f : Function) (flow : FlowsRightly n f)
-    (typed : (i : ℕ) (ins : Instruction) → slot i f.code ≡ some ins → (ts : List ℕ) → types_at s n f i ≡ some ts
+    (typed : (i : ℕ) (ins : Instruction) → slot i f.code ≡ Some ins → (ts : List ℕ) → types_at s n f i ≡ Some ts
     → (M : List (Arrow (List ℕ))) × (type_rule s n f i ins ts ≡ found M)) where
   abbrev last : ℕ
   last = length f.code
 
   abbrev PassBefore : ℕ → Type 0
   PassBefore m =
-      (i : ℕ) (ins : Instruction) → i < m → slot i f.code ≡ some ins → (x : Shape) → shape_at s n f i ≡ some x
+      (i : ℕ) (ins : Instruction) → i < m → slot i f.code ≡ Some ins → (x : Shape) → shape_at s n f i ≡ Some x
       → (M : List (Arrow Shape)) × (shape_rule s n f i ins x ≡ found M)
 
   states_sized : (m : ℕ) → PassBefore m → SizedBefore s n f (shape_at s n f) m
@@ -432,8 +432,8 @@ module _ (s : Program) (n : ℕ) (f : Function) (flow : FlowsRightly n f)
   }
 
   -- whatever obeys Table 3 before m has the states up to m
-  sized_states : (S : ℕ → Option Shape) (m : ℕ) → SizedBefore s n f S m → (i : ℕ) → i ≤ m → (x : Shape) → shape_at s n f i ≡ some x
-      → S i ≡ some x
+  sized_states : (S : ℕ → Option Shape) (m : ℕ) → SizedBefore s n f S m → (i : ℕ) → i ≤ m → (x : Shape) → shape_at s n f i ≡ Some x
+      → S i ≡ Some x
   sized_states S m W i h x e = tab_is (shape_rule s n f) (start_shape f) f.code S W.start m (rule_passes s n f S m W) i h x e
 
   shorter : (S : ℕ → Option Shape) (m k : ℕ) → k ≤ m → SizedBefore s n f S m → SizedBefore s n f S k
@@ -498,8 +498,8 @@ module _ (s : Program) (n : ℕ) (f : Function) (flow : FlowsRightly n f)
         where
           at_state : (i : ℕ) (w : StopsAt (λ i. slot i f.code) (λ i ins. test i ins (shape_at s n f i)) r i) (o : Option Shape)
               → shape_at s n f i ≡ o → SizesStop r
-          at_state i w none q = absurd (refused_found (sym (rw q at w.refuses)))
-          at_state i w (some x) q = by_cover (covered_at s x) refl
+          at_state i w None q = absurd (refused_found (sym (rw q at w.refuses)))
+          at_state i w (Some x) q = by_cover (covered_at s x) refl
             where
               no : shape_rule s n f i w.it x ≡ refused r
               no = only_refused (shape_rule s n f i w.it x) (rw q at w.refuses)

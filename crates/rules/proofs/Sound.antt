@@ -3,10 +3,10 @@
 use Rattle.std.specs.Prelude.{if◌then◌else◌}
 use mathlib.Core.Path.{◌≡◌, refl, sym, ap, ◌∙◌}
 use mathlib.Core.List.{List, [], ◌∷◌, ◌++◌, map}
-use mathlib.Core.Option.{Option, some}
+use Rattle.std.specs.Prelude.{Option, Some, slice_get}
 use mathlib.Core.Bool.{Bool, true, false}
 use Prim.Native.Nat.{ℕ, suc, ◌+◌, ◌≤◌}
-use lib.ListN.{length, get_elem?, length-append}
+use lib.ListN.{length, length-append}
 use lib.Dec.{eqb}
 use borrow.Author.Tests.{eqb-true, eqb-false}
 use Rattle.rules.specs.declared.records.Instruction.{Instruction}
@@ -37,20 +37,20 @@ use Rattle.rules.proofs.TypedSound.{finding}
 
 pub record SizedFn (s : Program) (n : ℕ) (f : Function) (sh : ℕ → Option Shape) : Type 0 where
   pub few : arity f ≤ 16
-  pub shape_start : sh 1 ≡ some (start_shape f)
+  pub shape_start : sh 1 ≡ Some (start_shape f)
   pub shape_on : Stands sh (shape_rule s n f) f.code
-  pub shape_own : (i : ℕ) (x : Shape) → sh i ≡ some x → x.bound ≡ f.bound
+  pub shape_own : (i : ℕ) (x : Shape) → sh i ≡ Some x → x.bound ≡ f.bound
 
-module _ (s : Program) (ty : ℕ → ℕ → Option (List ℕ)) (typed_fn : (n : ℕ) (f : Function) → function s n ≡ some f → TypedFn s n f (ty n))
-    (sh : ℕ → ℕ → Option Shape) (sized_fn : (n : ℕ) (f : Function) → function s n ≡ some f → SizedFn s n f (sh n)) (light : Light s)
+module _ (s : Program) (ty : ℕ → ℕ → Option (List ℕ)) (typed_fn : (n : ℕ) (f : Function) → function s n ≡ Some f → TypedFn s n f (ty n))
+    (sh : ℕ → ℕ → Option Shape) (sized_fn : (n : ℕ) (f : Function) → function s n ≡ Some f → SizedFn s n f (sh n)) (light : Light s)
     (Lim : ℕ → Type 0) where
   -- a frame whose function was called with us: its entries, and the parameters' shapes, stand for its values, with values ρ for the
   -- variables
   pub record FrameSized (fr : Frame) (us : List Value) : Type 0 where
     pub f : Function
-    pub at_f : function s fr.function ≡ some f
+    pub at_f : function s fr.function ≡ Some f
     pub shape : Shape
-    pub shape_at : sh fr.function fr.instruction ≡ some shape
+    pub shape_at : sh fr.function fr.instruction ≡ Some shape
     pub ρ : List Value
     pub counted : length ρ ≡ shape.count
     pub wide : length ρ ≤ 16
@@ -59,7 +59,7 @@ module _ (s : Program) (ty : ℕ → ℕ → Option (List ℕ)) (typed_fn : (n :
     pub limited : (n : ℕ) → Under (sizes s us) n f.bound → Lim n
 
   reshape : {fr : Frame} {us : List Value} (k : FrameSized fr us) (j : ℕ) {stack : List Value} {es : List Expression}
-      → sh fr.function j ≡ some (with_stack k.shape es) → All2 (Models s (Unit {0}) k.ρ) stack es
+      → sh fr.function j ≡ Some (with_stack k.shape es) → All2 (Models s (Unit {0}) k.ρ) stack es
       → FrameSized (frame_at j fr stack) us
   reshape k j {es = es} e m = record {
     f = k.f;
@@ -80,7 +80,7 @@ module _ (s : Program) (ty : ℕ → ℕ → Option (List ℕ)) (typed_fn : (n :
   abbrev own_form : Function → Shape → Form
   own_form f x = into_bound f.bound (map (form_of s) x.parameters)
 
-  covered : (n i : ℕ) (f : Function) → function s n ≡ some f → (x : Shape) → sh n i ≡ some x
+  covered : (n i : ℕ) (f : Function) → function s n ≡ Some f → (x : Shape) → sh n i ≡ Some x
       → All (λ e. covers (own_form f x) (form_of s e) ≡ true) x.stack
   unfolding covered_at
   covered n i f e x h =
@@ -104,7 +104,7 @@ module _ (s : Program) (ty : ℕ → ℕ → Option (List ℕ)) (typed_fn : (n :
 
   ---- A function that is called
 
-  pub entered_sized : (g : ℕ) (G : Function) → function s g ≡ some G → (vs : List Value) → length vs ≡ arity G
+  pub entered_sized : (g : ℕ) (G : Function) → function s g ≡ Some G → (vs : List Value) → length vs ≡ arity G
       → ((n : ℕ) → Under (sizes s vs) n G.bound → Lim n) → FrameSized (record { function = g; instruction = 1; stack = vs }) vs
   unfolding start_shape
   entered_sized g G e vs len l =
@@ -129,7 +129,7 @@ module _ (s : Program) (ty : ℕ → ℕ → Option (List ℕ)) (typed_fn : (n :
   GoodSized fr us = FrameTyped s ty typed_fn fr × FrameSized fr us
 
   abbrev pub GivesSized : ℕ → List Value → Value → Type 0
-  GivesSized g us v = (G : Function) × (function s g ≡ some G) × Has s v G.result × Under (sizes s us) (size s v) G.bound
+  GivesSized g us v = (G : Function) × (function s g ≡ Some G) × Has s v G.result × Under (sizes s us) (size s v) G.bound
 
   module _ {fr : Frame} {us : List Value} (k : FrameSized fr us) where
     abbrev i : ℕ
@@ -142,7 +142,7 @@ module _ (s : Program) (ty : ℕ → ℕ → Option (List ℕ)) (typed_fn : (n :
     abbrev Shapes : Instruction → Type 0
     Shapes ins = (N : List (Arrow Shape)) × (shape_from s n k.f i ins k.shape ≡ found N) × All (LeadsOn (sh n)) N
 
-    built_models : (c : ℕ) (K : Constructor) → constructor s c ≡ some K → (args : List Value) → Typed s args K.arguments
+    built_models : (c : ℕ) (K : Constructor) → constructor s c ≡ Some K → (args : List Value) → Typed s args K.arguments
         → {es : List Expression} → All2 (Models s (Unit {0}) k.ρ) args es
         → Models s (Unit {0}) k.ρ (made c args) (made (built c) es)
     built_models c K ck args h m = (
@@ -155,10 +155,10 @@ module _ (s : Program) (ty : ℕ → ℕ → Option (List ℕ)) (typed_fn : (n :
     )
 
     -- a variable with this constructor is split: its parts are values for fresh variables
-    split_sized : (c : ℕ) (K : Constructor) → constructor s c ≡ some K → (x : ℕ) (vs : Trees ℕ) → get_elem? k.ρ x ≡ some (node c vs)
+    split_sized : (c : ℕ) (K : Constructor) → constructor s c ≡ Some K → (x : ℕ) (vs : Trees ℕ) → slice_get k.ρ x ≡ Some (node c vs)
         → Typed s (to_list vs) K.arguments → k.shape.count + length K.arguments ≤ 16 → (rest : List Value) (es : List Expression)
         → All2 (Models s (Unit {0}) k.ρ) rest es
-        → sh n (suc i) ≡ some (split_variable k.shape es x c (length K.arguments)) → FrameSized (onward fr (rest ++ to_list vs)) us
+        → sh n (suc i) ≡ Some (split_variable k.shape es x c (length K.arguments)) → FrameSized (onward fr (rest ++ to_list vs)) us
     unfolding split_variable
     split_sized c K ck x vs ax tv few rest es mr se =
         let len : length (to_list vs) ≡ length K.arguments = all2_length tv in
@@ -193,7 +193,7 @@ module _ (s : Program) (ty : ℕ → ℕ → Option (List ℕ)) (typed_fn : (n :
     abbrev Sides : ℕ → ℕ → List Value → ℕ → Trees ℕ → Type 0
     Sides c b rest d vs = (d ≡ c → FrameSized (onward fr (rest ++ to_list vs)) us) × ((d ≡ c → ⊥) → FrameSized (frame_at b fr fr.stack) us)
 
-    branch_sized : (c b : ℕ) (K : Constructor) → constructor s c ≡ some K → (rest : List Value) (d : ℕ) (vs : Trees ℕ)
+    branch_sized : (c b : ℕ) (K : Constructor) → constructor s c ≡ Some K → (rest : List Value) (d : ℕ) (vs : Trees ℕ)
         → (d ≡ c → Typed s (to_list vs) K.arguments) → {p₀ p₁ : List Expression} {N : List (Arrow Shape)}
         → All2 (Models s (Unit {0}) k.ρ) rest p₀ → All2 (Models s (Unit {0}) k.ρ) (node d vs ∷ []) p₁
         → branch_on s n k.f i k.shape p₀ c (length K.arguments) b p₁ ≡ found N → All (LeadsOn (sh n)) N → Sides c b rest d vs
@@ -221,8 +221,8 @@ module _ (s : Program) (ty : ℕ → ℕ → Option (List ℕ)) (typed_fn : (n :
         absurd (branch_called s n k.f i k.shape p₀ c (length K.arguments) b g ts [] e)
 
     -- the entry for a call's result, once the call is answered, and the limit for what is called
-    call_sized : (g : ℕ) (G : Function) → function s g ≡ some G → (rest args : List Value)
-        → split (length G.parameters) fr.stack ≡ some (rest, args) → Typed s args G.parameters → Shapes (Call g)
+    call_sized : (g : ℕ) (G : Function) → function s g ≡ Some G → (rest args : List Value)
+        → split (length G.parameters) fr.stack ≡ Some (rest, args) → Typed s args G.parameters → Shapes (Call g)
         → FrameSized (record { function = g; instruction = 1; stack = args }) args
         × ((v : Value) → Under (sizes s args) (size s v) G.bound → FrameSized (onward fr (push rest v)) us)
     call_sized g G eg rest args cut h (N, es, ms) =
@@ -274,7 +274,7 @@ module _ (s : Program) (ty : ℕ → ℕ → Option (List ℕ)) (typed_fn : (n :
         returns v refl e (t.f, t.at_f, h, rw same at (all_top e (within k)))
     does_one t Stop ends shapes = stops refl
 
-  pub does_sized : (fr : Frame) (us : List Value) → GoodSized fr us → (ins : Instruction) × (current s fr ≡ some ins)
+  pub does_sized : (fr : Frame) (us : List Value) → GoodSized fr us → (ins : Instruction) × (current s fr ≡ Some ins)
       × Done s GoodSized GivesSized ins fr us
   does_sized fr us (t, k) =
       let d = finding s ty typed_fn t in

@@ -1,7 +1,7 @@
 -- What a check that passes or refuses says of its parts.
 use mathlib.Core.Path.{◌≡◌, refl, sym, ap, ◌∙◌}
 use mathlib.Core.List.{List, [], ◌∷◌}
-use mathlib.Core.Option.{Option, none, some}
+use Rattle.std.specs.Prelude.{Option, None, Some}
 use mathlib.Core.Bool.{Bool, true, false}
 use mathlib.Core.Logic.{◌⊎◌, inl, inr, ◌↔◌}
 use Prim.Native.Nat.{ℕ}
@@ -26,9 +26,9 @@ pub bind_found : {A B : Type 0} (t : Tried A) (f : A → Tried B) {b : B} → (t
 bind_found (found a) f e = (a, refl, e)
 bind_found (refused r) f e = absurd (refused_found e)
 
-pub found_some : {A : Type 0} (o : Option A) (r : Refusal) {a : A} → or_refuse o r ≡ found a → o ≡ some a
-found_some none r e = absurd (refused_found e)
-found_some (some b) r e = cc
+pub found_some : {A : Type 0} (o : Option A) (r : Refusal) {a : A} → or_refuse o r ≡ found a → o ≡ Some a
+found_some None r e = absurd (refused_found e)
+found_some (Some b) r e = cc
 
 pub required : (t : Bool) (r : Refusal) {u : Unit {0}} → require t r ≡ found u → t ≡ true
 required true r e = refl
@@ -36,9 +36,9 @@ required false r e = absurd (refused_found e)
 
 -- something found, then more; and something required, then more
 pub after_some : {A B : Type 0} (o : Option A) (r : Refusal) (f : A → Tried B) {b : B} → (or_refuse o r >>= f) ≡ found b → (a : A)
-    × (o ≡ some a) × (f a ≡ found b)
-after_some none r f e = absurd (refused_found e)
-after_some (some a) r f e = (a, refl, e)
+    × (o ≡ Some a) × (f a ≡ found b)
+after_some None r f e = absurd (refused_found e)
+after_some (Some a) r f e = (a, refl, e)
 
 pub after_required : {B : Type 0} (t : Bool) (r : Refusal) (f : Unit {0} → Tried B) {b : B} → (require t r >>= f) ≡ found b → (t ≡ true)
     × (f tt ≡ found b)
@@ -66,8 +66,8 @@ module _ (P : Refusal → Type 0) where
 
   pub refuses_some : {A B : Type 0} (o : Option A) (r : Refusal) (f : A → Tried B) → P r → ((a : A) → Refuses P (f a))
       → Refuses P (or_refuse o r >>= f)
-  refuses_some none r f p h = p
-  refuses_some (some a) r f p h = h a
+  refuses_some None r f p h = p
+  refuses_some (Some a) r f p h = h a
 
 pub require_refused : (b : Bool) {q r : Refusal} → require b q ≡ refused r → (b ≡ false) × (q ≡ r)
 require_refused true e = absurd (refused_found (sym e))

@@ -3,7 +3,7 @@
 -- the machine goes on.
 use mathlib.Core.Path.{◌≡◌, refl, sym, ◌∙◌}
 use mathlib.Core.List.{List, [], ◌∷◌, ◌++◌}
-use mathlib.Core.Option.{Option, some}
+use Rattle.std.specs.Prelude.{Option, Some}
 use mathlib.Core.Bool.{Bool, true, false}
 use Prim.Native.Nat.{ℕ, suc}
 use lib.ListN.{length}
@@ -29,48 +29,48 @@ use Rattle.rules.proofs.Progress.{Done, stays, calls, returns, stops}
 -- a table that holds of every instruction at once
 abbrev pub Stands : {S : Type 0} → (ℕ → Option S) → (ℕ → Instruction → S → Tried (List (Arrow S))) → List Instruction → Type 0
 Stands {S} tab rule code =
-    (i : ℕ) (x : S) → tab i ≡ some x → (ins : Instruction) × (slot i code ≡ some ins) × (M : List (Arrow S)) × (rule i ins x ≡ found M)
+    (i : ℕ) (x : S) → tab i ≡ Some x → (ins : Instruction) × (slot i code ≡ Some ins) × (M : List (Arrow S)) × (rule i ins x ≡ found M)
     × All (LeadsOn tab) M
 
 pub record TypedFn (s : Program) (n : ℕ) (f : Function) (ty : ℕ → Option (List ℕ)) : Type 0 where
-  pub type_start : ty 1 ≡ some f.parameters
+  pub type_start : ty 1 ≡ Some f.parameters
   pub type_on : Stands ty (type_rule s n f) f.code
 
-module _ (s : Program) (ty : ℕ → ℕ → Option (List ℕ)) (acc : (n : ℕ) (f : Function) → function s n ≡ some f → TypedFn s n f (ty n)) where
+module _ (s : Program) (ty : ℕ → ℕ → Option (List ℕ)) (acc : (n : ℕ) (f : Function) → function s n ≡ Some f → TypedFn s n f (ty n)) where
   -- a frame has values of the types worked out at its instruction
   pub record FrameTyped (fr : Frame) : Type 0 where
     pub f : Function
-    pub at_f : function s fr.function ≡ some f
+    pub at_f : function s fr.function ≡ Some f
     pub ts : List ℕ
-    pub types_at_lem : ty fr.function fr.instruction ≡ some ts
+    pub types_at_lem : ty fr.function fr.instruction ≡ Some ts
     pub typed : Typed s fr.stack ts
 
-  retype : {fr : Frame} (k : FrameTyped fr) (j : ℕ) {stack : List Value} {ts : List ℕ} → ty fr.function j ≡ some ts → Typed s stack ts
+  retype : {fr : Frame} (k : FrameTyped fr) (j : ℕ) {stack : List Value} {ts : List ℕ} → ty fr.function j ≡ Some ts → Typed s stack ts
       → FrameTyped (frame_at j fr stack)
   retype k j {ts} e h = record { f = k.f; at_f = k.at_f; ts = ts; types_at_lem = e; typed = h }
 
   -- the frame of a function that is called
-  pub entered_typed : (g : ℕ) (G : Function) → function s g ≡ some G → (vs : List Value) → Typed s vs G.parameters
+  pub entered_typed : (g : ℕ) (G : Function) → function s g ≡ Some G → (vs : List Value) → Typed s vs G.parameters
       → FrameTyped (record { function = g; instruction = 1; stack = vs })
   entered_typed g G e vs h = record { f = G; at_f = e; ts = G.parameters; types_at_lem = (acc g G e).type_start; typed = h }
 
   -- what an instruction finds on a typed stack, and the typed frame that it leaves
   pub data Finds (fr : Frame) (f : Function) : Instruction → Type 0 where
-    loads : {a : ℕ} (v : Value) → slot a fr.stack ≡ some v → FrameTyped (onward fr (push fr.stack v)) → Finds fr f (Load a)
-    builds : {c : ℕ} (K : Constructor) (rest args : List Value) → constructor s c ≡ some K
-        → split (length K.arguments) fr.stack ≡ some (rest, args) → Typed s args K.arguments
+    loads : {a : ℕ} (v : Value) → slot a fr.stack ≡ Some v → FrameTyped (onward fr (push fr.stack v)) → Finds fr f (Load a)
+    builds : {c : ℕ} (K : Constructor) (rest args : List Value) → constructor s c ≡ Some K
+        → split (length K.arguments) fr.stack ≡ Some (rest, args) → Typed s args K.arguments
         → FrameTyped (onward fr (push rest (made c args))) → Finds fr f (Build c)
-    enters : {g : ℕ} (G : Function) (rest args : List Value) → function s g ≡ some G
-        → split (length G.parameters) fr.stack ≡ some (rest, args) → Typed s args G.parameters
+    enters : {g : ℕ} (G : Function) (rest args : List Value) → function s g ≡ Some G
+        → split (length G.parameters) fr.stack ≡ Some (rest, args) → Typed s args G.parameters
         → ((v : Value) → Has s v G.result → FrameTyped (onward fr (push rest v))) → Finds fr f (Call g)
-    forks : {c b : ℕ} (K : Constructor) (rest : List Value) (d : ℕ) (vs : Trees ℕ) → constructor s c ≡ some K
-        → split 1 fr.stack ≡ some (rest, node d vs ∷ []) → (d ≡ c → Typed s (to_list vs) K.arguments)
+    forks : {c b : ℕ} (K : Constructor) (rest : List Value) (d : ℕ) (vs : Trees ℕ) → constructor s c ≡ Some K
+        → split 1 fr.stack ≡ Some (rest, node d vs ∷ []) → (d ≡ c → Typed s (to_list vs) K.arguments)
         → (d ≡ c → FrameTyped (onward fr (rest ++ to_list vs))) → FrameTyped (frame_at b fr fr.stack) → Finds fr f (Branch c b)
-    leaves : (v : Value) → top fr.stack ≡ some v → Has s v f.result → Finds fr f Return
+    leaves : (v : Value) → top fr.stack ≡ Some v → Has s v f.result → Finds fr f Return
     ends : Finds fr f Stop
 
   -- the parts of a value whose constructor is known
-  parts_of : (c : ℕ) (K : Constructor) → constructor s c ≡ some K → (vs : Trees ℕ) (t : ℕ) → Has s (node c vs) t
+  parts_of : (c : ℕ) (K : Constructor) → constructor s c ≡ Some K → (vs : Trees ℕ) (t : ℕ) → Has s (node c vs) t
       → Typed s (to_list vs) K.arguments
   parts_of c K e vs t h = have_list s vs K.arguments (rw (some_inj (sym h.1 ∙ e)) at h.3)
 
@@ -81,9 +81,9 @@ module _ (s : Program) (ty : ℕ → ℕ → Option (List ℕ)) (acc : (n : ℕ)
     abbrev n : ℕ
     n = fr.function
 
-    finds_branch : (c b : ℕ) (K : Constructor) → constructor s c ≡ some K → {rest tops : List Value} {tr : List ℕ}
-        → split 1 fr.stack ≡ some (rest, tops) → Typed s rest tr → Typed s tops (K.result ∷ [])
-        → ty n (suc i) ≡ some (tr ++ K.arguments) → ty n b ≡ some k.ts → Finds fr k.f (Branch c b)
+    finds_branch : (c b : ℕ) (K : Constructor) → constructor s c ≡ Some K → {rest tops : List Value} {tr : List ℕ}
+        → split 1 fr.stack ≡ Some (rest, tops) → Typed s rest tr → Typed s tops (K.result ∷ [])
+        → ty n (suc i) ≡ Some (tr ++ K.arguments) → ty n b ≡ Some k.ts → Finds fr k.f (Branch c b)
     finds_branch c b K ck {rest} cut h (◌a∷◌ {x = node d vs} p a[]) on off =
         forks K rest d vs ck cut parts (λ e. retype k (suc i) on (all2_append h (parts e))) (retype k b off k.typed)
       where
@@ -116,12 +116,12 @@ module _ (s : Program) (ty : ℕ → ℕ → Option (List ℕ)) (acc : (n : ℕ)
         let v = all2_split 1 k.typed t.1 in
         one v.1 v.3
       where
-        one : {rest tops : List Value} → split 1 fr.stack ≡ some (rest, tops) → Typed s tops (k.f.result ∷ []) → Finds fr k.f Return
+        one : {rest tops : List Value} → split 1 fr.stack ≡ Some (rest, tops) → Typed s tops (k.f.result ∷ []) → Finds fr k.f Return
         one e (◌a∷◌ {x = v} h a[]) = leaves v (rw e) h
     finds Stop et mt = ends
 
     -- the instruction at which the frame stands, and what it finds
-    pub finding : (ins : Instruction) × (current s fr ≡ some ins) × (slot i k.f.code ≡ some ins) × Finds fr k.f ins
+    pub finding : (ins : Instruction) × (current s fr ≡ Some ins) × (slot i k.f.code ≡ Some ins) × Finds fr k.f ins
     unfolding current
     finding =
         let t = (acc n k.f k.at_f).type_on i k.ts k.types_at_lem in
@@ -131,12 +131,12 @@ module _ (s : Program) (ty : ℕ → ℕ → Option (List ℕ)) (acc : (n : ℕ)
 
   -- a function gives a value of its result type
   abbrev pub GivesTyped : ℕ → List Value → Value → Type 0
-  GivesTyped g us v = (G : Function) × (function s g ≡ some G) × Has s v G.result
+  GivesTyped g us v = (G : Function) × (function s g ≡ Some G) × Has s v G.result
 
   abbrev pub GoodTyped : Frame → List Value → Type 0
   GoodTyped fr us = FrameTyped fr
 
-  pub does_typed : (fr : Frame) (us : List Value) → GoodTyped fr us → (ins : Instruction) × (current s fr ≡ some ins)
+  pub does_typed : (fr : Frame) (us : List Value) → GoodTyped fr us → (ins : Instruction) × (current s fr ≡ Some ins)
       × Done s GoodTyped GivesTyped ins fr us
   unfolding execute
   does_typed fr us k = let d = finding k in (d.0, d.1, one d.0 d.3)

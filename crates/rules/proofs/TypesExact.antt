@@ -1,7 +1,7 @@
 -- The type pass says of each function just what Table 2 says.
 use mathlib.Core.Path.{◌≡◌, refl, sym, ap, ◌∙◌}
 use mathlib.Core.List.{List, [], ◌∷◌, ◌++◌}
-use mathlib.Core.Option.{Option, none, some}
+use Rattle.std.specs.Prelude.{Option, None, Some}
 use Prim.Native.Nat.{ℕ, suc, ◌≤◌, ◌<◌}
 use native.Mathlib.Omega.{arith}
 use native.Mathlib.Nat.{le_trans, le_of_eq}
@@ -30,7 +30,7 @@ use Rattle.rules.proofs.OutcomeLaws.{return_typed, stop_typed}
 use Rattle.rules.proofs.Accepted.{FlowsRightly, low_states, checked_parts, decoded_function, flowing}
 use Rattle.rules.specs.Facts.{TypesFact}
 
-pub joined : {A : Type 0} (k : ℕ) (xs rest top : List A) → xs ≡ rest ++ top → length top ≡ k → split k xs ≡ some (rest, top)
+pub joined : {A : Type 0} (k : ℕ) (xs rest top : List A) → xs ≡ rest ++ top → length top ≡ k → split k xs ≡ Some (rest, top)
 joined k xs rest top e len = rw (e, ← len) (split_append rest top)
 
 -- the rule passes, and what it hands on stands in the table
@@ -72,11 +72,11 @@ module _ (s : Program) (n : ℕ) (f : Function) where
 
 module _ (s : Program) (n : ℕ) (f : Function) (T : ℕ → List ℕ) (low : (i : ℕ) → length (T i) ≤ 16) where
   abbrev at : ℕ → Option (List ℕ)
-  at i = some (T i)
+  at i = Some (T i)
 
   goes_on_lem : (i : ℕ) (stack : List ℕ) → i < length f.code → T (suc i) ≡ stack → (types_on s n f i stack ≡ found ((suc i, stack) ∷ []))
       × LeadsOn at (suc i, stack)
-  goes_on_lem i stack h e = (types_on_lem s n f i stack (rw (← e) (low (suc i))), ap some e)
+  goes_on_lem i stack h e = (types_on_lem s n f i stack (rw (← e) (low (suc i))), ap Some e)
 
   type_passes : (i : ℕ) (ins : Instruction) → wt s f T i ins → Passes (type_rule s n f) at i ins (T i)
   type_passes i (Load a) (h, t, e, o) =
@@ -100,7 +100,7 @@ module _ (s : Program) (n : ℕ) (f : Function) (T : ℕ → List ℕ) (low : (i
       let g = goes_on_lem i (rest ++ k.arguments) h o in
       let whole : type_rule s n f i (Branch c b) (T i) ≡ found ((suc i, rest ++ k.arguments) ∷ (b, T i) ∷ []) =
       branch_typed s n f i c b (T i) ck ∙ branched (T i) e g.0 in
-      ((suc i, rest ++ k.arguments) ∷ (b, T i) ∷ [], whole, g.1 l∷ ap some j l∷ l[])
+      ((suc i, rest ++ k.arguments) ∷ (b, T i) ∷ [], whole, g.1 l∷ ap Some j l∷ l[])
     where
       branched : (stack : List ℕ) → stack ≡ push rest k.result
           → types_on s n f i (rest ++ k.arguments) ≡ found ((suc i, rest ++ k.arguments) ∷ [])
@@ -120,7 +120,7 @@ module _ (s : Program) (n : ℕ) (f : Function) (few : length f.parameters ≤ 1
   abbrev T : ℕ → List ℕ
   T i = or_else (types_at s n f i) []
 
-  is : (i : ℕ) {ts : List ℕ} → types_at s n f i ≡ some ts → T i ≡ ts
+  is : (i : ℕ) {ts : List ℕ} → types_at s n f i ≡ Some ts → T i ≡ ts
   is i e = rw e
 
   -- where the rule passes and what it hands on stands in T, Table 2 holds
@@ -144,11 +144,11 @@ module _ (s : Program) (n : ℕ) (f : Function) (few : length f.parameters ≤ 1
 
   abbrev PassBefore : ℕ → Type 0
   PassBefore m =
-      (i : ℕ) (ins : Instruction) → i < m → slot i f.code ≡ some ins → (ts : List ℕ) → types_at s n f i ≡ some ts
+      (i : ℕ) (ins : Instruction) → i < m → slot i f.code ≡ Some ins → (ts : List ℕ) → types_at s n f i ≡ Some ts
       → (M : List (Arrow (List ℕ))) × (type_rule s n f i ins ts ≡ found M)
 
   -- every instruction up to m has a state, where the rule passes before it
-  pub reached : (m : ℕ) → PassBefore m → (i : ℕ) → 1 ≤ i → i ≤ m → i ≤ last → (ts : List ℕ) × (types_at s n f i ≡ some ts)
+  pub reached : (m : ℕ) → PassBefore m → (i : ℕ) → 1 ≤ i → i ≤ m → i ≤ last → (ts : List ℕ) × (types_at s n f i ≡ Some ts)
   reached m pass i lo hi l = state_reached (type_rule s n f) f.parameters f.code flow.tree (type_all s n f) m pass i lo hi l
 
   pub states_typed : (m : ℕ) → PassBefore m → TypedBefore s f T m
@@ -165,14 +165,14 @@ module _ (s : Program) (n : ℕ) (f : Function) (few : length f.parameters ≤ 1
   }
     where
       one : (i : ℕ) (o : Option (List ℕ)) → types_at s n f i ≡ o → length (or_else o []) ≤ 16
-      one i none e = omega arith
-      one i (some ts) e = low_states s n f few i ts e
+      one i None e = omega arith
+      one i (Some ts) e = low_states s n f few i ts e
 
   -- whatever obeys Table 2 before m has the states up to m, and the rule passes there
-  pub typed_states : (U : ℕ → List ℕ) (m : ℕ) → TypedBefore s f U m → (i : ℕ) → i ≤ m → (ts : List ℕ) → types_at s n f i ≡ some ts
+  pub typed_states : (U : ℕ → List ℕ) (m : ℕ) → TypedBefore s f U m → (i : ℕ) → i ≤ m → (ts : List ℕ) → types_at s n f i ≡ Some ts
       → U i ≡ ts
   typed_states U m W i h ts e =
-      some_inj (tab_is (type_rule s n f) f.parameters f.code (λ j. some (U j)) (ap some W.start) m
+      some_inj (tab_is (type_rule s n f) f.parameters f.code (λ j. Some (U j)) (ap Some W.start) m
       (λ j ins lt c x q. rw (← some_inj q) (type_passes s n f U W.low j ins (W.instructions j ins lt c))) i h ts e)
 
   pub typed_passes : (U : ℕ → List ℕ) (m : ℕ) → TypedBefore s f U m → PassBefore m
@@ -216,8 +216,8 @@ module _ (s : Program) (n : ℕ) (f : Function) (few : length f.parameters ≤ 1
         where
           at_state : (i : ℕ) (w : StopsAt (λ i. slot i f.code) (λ i ins. test i ins (types_at s n f i)) r i) (o : Option (List ℕ))
               → types_at s n f i ≡ o → TypesStop r
-          at_state i w none q = absurd (refused_found (sym (rw q at w.refuses)))
-          at_state i w (some ts) q =
+          at_state i w None q = absurd (refused_found (sym (rw q at w.refuses)))
+          at_state i w (Some ts) q =
               let no = only_refused (type_rule s n f i w.it ts) (rw q at w.refuses) in
               let pass : PassBefore i = λ j ins lt c us h. judge_found (type_rule s n f) (root_at 1 f.parameters) f.code j ins us
               (w.before j ins lt c) h in (
@@ -250,4 +250,4 @@ types_fact file s e n f at_f T W i ins c =
     in
     let low = slot_low i f.code c in
     let w = reached s n f few flow i (λ j ins lt c ts h. pass j ins c ts h) i low.0 (omega arith) low.1 in
-    w.1 ∙ ap some (sym (typed_states s n f few flow T (suc i) (typed_whole s n f few flow T W (suc i)) i (omega arith) w.0 w.1))
+    w.1 ∙ ap Some (sym (typed_states s n f few flow T (suc i) (typed_whole s n f few flow T W (suc i)) i (omega arith) w.0 w.1))

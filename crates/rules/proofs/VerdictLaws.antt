@@ -1,13 +1,12 @@
 -- What a check decides: what holds where it passes, and what of its refusal where it refuses.
 use mathlib.Core.Path.{◌≡◌, refl, sym, ap, ◌∙◌, subst}
 use mathlib.Core.List.{List}
-use mathlib.Core.Option.{some}
+use Rattle.std.specs.Prelude.{Some, slice_get}
 use mathlib.Core.Bool.{Bool, true, false}
 use mathlib.Core.Logic.{◌↔◌}
 use Prim.Native.Nat.{ℕ, zero, suc, ◌+◌, ◌≤◌, ◌<◌}
 use native.Mathlib.Omega.{arith}
 use native.Mathlib.Nat.{zero-add}
-use lib.ListN.{get_elem?}
 use Rattle.rules.specs.Base.{Refusal, found, refused, ◌>>=◌, Check, passed, Decides, require, for_each, each}
 use Rattle.rules.proofs.ListLaws.{test_not}
 use Rattle.rules.proofs.TriedLaws.{refused_found, refused_inj}
@@ -62,12 +61,12 @@ decides_require t q test =
 -- a rule for each element decides what the rule decides of them, the first refusal counting
 -- the rule fails of an element, and holds of those before it
 abbrev pub EachFails : {A : Type 0} → List A → (ℕ → A → Type 0) → (ℕ → A → Refusal → Type 0) → Refusal → Type 0
-EachFails {A} xs R F r = (i : ℕ) × (x : A) × (get_elem? xs i ≡ some x) × F i x r
-    × ((j : ℕ) (y : A) → j < i → get_elem? xs j ≡ some y → R j y)
+EachFails {A} xs R F r = (i : ℕ) × (x : A) × (slice_get xs i ≡ Some x) × F i x r
+    × ((j : ℕ) (y : A) → j < i → slice_get xs j ≡ Some y → R j y)
 
 module _ {A : Type 0} (rule : ℕ → A → Check) (k : ℕ) (xs : List A) (R : ℕ → A → Type 0) (F : ℕ → A → Refusal → Type 0)
-    (rules : (i : ℕ) (x : A) → get_elem? xs i ≡ some x → Decides (rule (k + i) x) (R i x) (F i x)) where
-  pub each_decides : Decides (each rule k xs) ((i : ℕ) (x : A) → get_elem? xs i ≡ some x → R i x) (EachFails xs R F)
+    (rules : (i : ℕ) (x : A) → slice_get xs i ≡ Some x → Decides (rule (k + i) x) (R i x) (F i x)) where
+  pub each_decides : Decides (each rule k xs) ((i : ℕ) (x : A) → slice_get xs i ≡ Some x → R i x) (EachFails xs R F)
   each_decides = (
     (
       (λ e i x h. (rules i x h).0.0 (each_every rule k xs e i h)),

@@ -3,7 +3,7 @@
 use Rattle.std.specs.Prelude.{if◌then◌else◌}
 use mathlib.Core.Path.{◌≡◌, refl, sym, ap, ◌∙◌}
 use mathlib.Core.List.{List, [], ◌∷◌, ◌++◌}
-use mathlib.Core.Option.{Option, none, some}
+use Rattle.std.specs.Prelude.{Option, None, Some}
 use mathlib.Core.Bool.{Bool, true, false}
 use Prim.Native.Nat.{ℕ, zero, suc, ◌≤◌, ◌<◌}
 use native.Mathlib.Omega.{arith}
@@ -48,7 +48,7 @@ module _ {S : Type 0} (rule : ℕ → Instruction → S → Tried (List (Arrow S
 
   -- the states of the first k instructions
   abbrev held_to : ℕ → ℕ → Option S
-  held_to k i = if leb i k then at i else none
+  held_to k i = if leb i k then at i else None
 
   -- what the first k instructions hand on to j, or j's own as a root
   unfoldable pub so_far : ℕ → ℕ → Option S
@@ -64,23 +64,23 @@ module _ {S : Type 0} (rule : ℕ → Instruction → S → Tried (List (Arrow S
   unfolding so_far
   so_far_start j = two (root_at 1 x₁ j) (origin code j) refl
     where
-      one : (i : ℕ) (o : Option Instruction) → slot i code ≡ o → handed rule (root_at 1 x₁) code i j o (held_to 0 i) ≡ none
-      one i none e = refl
-      one zero (some ins) e = none_some e
-      one (suc i) (some ins) e = rw (lt-leb (suc i) 0 (omega arith))
+      one : (i : ℕ) (o : Option Instruction) → slot i code ≡ o → handed rule (root_at 1 x₁) code i j o (held_to 0 i) ≡ None
+      one i None e = refl
+      one zero (Some ins) e = none_some e
+      one (suc i) (Some ins) e = rw (lt-leb (suc i) 0 (omega arith))
 
       two : (r : Option S) (o : Option ℕ) → origin code j ≡ o → or_root r (from_origin rule (root_at 1 x₁) code (held_to 0) j o) ≡ r
-      two (some x) o e = refl
-      two none none e = refl
-      two none (some i) e = one i (slot i code) refl
+      two (Some x) o e = refl
+      two None None e = refl
+      two None (Some i) e = one i (slot i code) refl
 
   -- one instruction more changes nothing where it does not lead
-  pub so_far_other : (k j : ℕ) → (origin code j ≡ some (suc k) → ⊥) → so_far (suc k) j ≡ so_far k j
+  pub so_far_other : (k j : ℕ) → (origin code j ≡ Some (suc k) → ⊥) → so_far (suc k) j ≡ so_far k j
   unfolding so_far
   so_far_other k j apart = ap (or_root (root_at 1 x₁ j)) (one (origin code j) refl)
     where
       held : (i : ℕ) (a b : Bool) → leb i (suc k) ≡ a → leb i k ≡ b → (i ≡ suc k → ⊥)
-          → ◌≡◌ {A = Option S} (if a then at i else none) (if b then at i else none)
+          → ◌≡◌ {A = Option S} (if a then at i else None) (if b then at i else None)
       held i true true p q d = refl
       held i false false p q d = refl
       held i true false p q d = absurd (d (omega (arith, leb-true i (suc k) p, leb-false i k q)))
@@ -88,18 +88,18 @@ module _ {S : Type 0} (rule : ℕ → Instruction → S → Tried (List (Arrow S
 
       one : (o : Option ℕ) → origin code j ≡ o
           → from_origin rule (root_at 1 x₁) code (held_to (suc k)) j o ≡ from_origin rule (root_at 1 x₁) code (held_to k) j o
-      one none e = refl
-      one (some i) e =
+      one None e = refl
+      one (Some i) e =
           ap (handed rule (root_at 1 x₁) code i j (slot i code))
-          (held i (leb i (suc k)) (leb i k) refl refl (λ q. apart (e ∙ ap some q)))
+          (held i (leb i (suc k)) (leb i k) refl refl (λ q. apart (e ∙ ap Some q)))
 
   -- and brings the state where it does, which had none
-  pub so_far_new : (k j : ℕ) → origin code j ≡ some (suc k)
-      → (so_far k j ≡ none) × (so_far (suc k) j ≡ handed rule (root_at 1 x₁) code (suc k) j (slot (suc k) code) (at (suc k)))
+  pub so_far_new : (k j : ℕ) → origin code j ≡ Some (suc k)
+      → (so_far k j ≡ None) × (so_far (suc k) j ≡ handed rule (root_at 1 x₁) code (suc k) j (slot (suc k) code) (at (suc k)))
   unfolding so_far
   so_far_new k j o =
       let l = origin_leads code j (suc k) o in
-      let not_root : root_at 1 x₁ j ≡ none = rw (ne_eqb 1 j (λ q. omega (arith, l.ahead))) in (
+      let not_root : root_at 1 x₁ j ≡ None = rw (ne_eqb 1 j (λ q. omega (arith, l.ahead))) in (
         rw (not_root, o, lt-leb (suc k) k (omega arith), l.stands),
         rw (not_root, o, le-leb (suc k) (suc k) (omega arith)),
       )
@@ -109,7 +109,7 @@ module _ {S : Type 0} (rule : ℕ → Instruction → S → Tried (List (Arrow S
     pub record WalkOn (k : ℕ) (w : List W) : Type 0 where
       pub within : k ≤ length code
       pub room : length code < length w
-      pub waits : (j : ℕ) (y : S) → k < j → j ≤ length code → so_far k j ≡ some y → R (get_or w j d) y
+      pub waits : (j : ℕ) (y : S) → k < j → j ≤ length code → so_far k j ≡ Some y → R (get_or w j d) y
 
     pub walking_start : (w : List W) → length code < length w → R (get_or w 1 d) x₁ → WalkOn 0 w
     walking_start w h r = record {
@@ -120,10 +120,10 @@ module _ {S : Type 0} (rule : ℕ → Instruction → S → Tried (List (Arrow S
 
     module _ {k : ℕ} {w : List W} (s : WalkOn k w) (h : k < length code) where
       -- the next instruction's slot holds its state
-      pub walking_here : (x : S) → at (suc k) ≡ some x → R (get_or w (suc k) d) x
+      pub walking_here : (x : S) → at (suc k) ≡ Some x → R (get_or w (suc k) d) x
       walking_here x e = s.waits (suc k) x (omega arith) (omega arith) (so_far_here k h ∙ e)
 
-      pub walking_next : Tree code → (ins : Instruction) → slot (suc k) code ≡ some ins → (x : S) → at (suc k) ≡ some x
+      pub walking_next : Tree code → (ins : Instruction) → slot (suc k) code ≡ Some ins → (x : S) → at (suc k) ≡ Some x
           → (on to : ℕ) (y z : S) (v u : W) → rule (suc k) ins x ≡ found (arrow_to on y ++ arrow_to to z)
           → ((j : ℕ) → count j (arrow_to on y ++ arrow_to to z) ≤ hits j (targets (suc k) ins)) → on ≤ length code → to ≤ length code
           → R v y → R u z → WalkOn (suc k) (set (set w to u) on v)
@@ -135,7 +135,7 @@ module _ {S : Type 0} (rule : ℕ → Instruction → S → Tried (List (Arrow S
         where
           -- an arrow to j makes this instruction its origin, and brings its state
           brings : (j : ℕ) (q : S) → suc k < j → j ≤ length code → {more : List S} → arriving j (arrow_to on y ++ arrow_to to z) ≡ q ∷ more
-              → so_far (suc k) j ≡ some q
+              → so_far (suc k) j ≡ Some q
           brings j q lo hi m =
               let named : 1 ≤ hits j (targets (suc k) ins) = le_trans (rw m (omega arith)) (among j) in
               let o = origin_is code (suc k) j (record { ins = ins; stands = c; names = named; ahead = lo })
@@ -143,19 +143,19 @@ module _ {S : Type 0} (rule : ℕ → Instruction → S → Tried (List (Arrow S
               (so_far_new k j o).1 ∙ rw (c, e, r) (ap first m)
 
           -- where no arrow leads, the slot is as it was
-          keeps : (j : ℕ) (q : S) → so_far (suc k) j ≡ some q → arriving j (arrow_to on y ++ arrow_to to z) ≡ [] → (o : Option ℕ)
-              → origin code j ≡ o → so_far k j ≡ some q
-          keeps j q sf m none o = sym (so_far_other k j (λ p. none_some (sym o ∙ p))) ∙ sf
-          keeps j q sf m (some i) o = one (eqb i (suc k)) refl
+          keeps : (j : ℕ) (q : S) → so_far (suc k) j ≡ Some q → arriving j (arrow_to on y ++ arrow_to to z) ≡ [] → (o : Option ℕ)
+              → origin code j ≡ o → so_far k j ≡ Some q
+          keeps j q sf m None o = sym (so_far_other k j (λ p. none_some (sym o ∙ p))) ∙ sf
+          keeps j q sf m (Some i) o = one (eqb i (suc k)) refl
             where
-              one : (b : Bool) → eqb i (suc k) ≡ b → so_far k j ≡ some q
+              one : (b : Bool) → eqb i (suc k) ≡ b → so_far k j ≡ Some q
               one true p =
-                  let is : so_far (suc k) j ≡ none =
-                  (so_far_new k j (o ∙ ap some (eqb-true i (suc k) p))).1 ∙ rw (c, e, r) (ap first m) in
+                  let is : so_far (suc k) j ≡ None =
+                  (so_far_new k j (o ∙ ap Some (eqb-true i (suc k) p))).1 ∙ rw (c, e, r) (ap first m) in
                   none_some (sym is ∙ sf)
               one false p = sym (so_far_other k j (λ n. eqb-false i (suc k) p (some_inj (sym o ∙ n)))) ∙ sf
 
-          stored : (j : ℕ) (q : S) → suc k < j → j ≤ length code → so_far (suc k) j ≡ some q → (a : Bool) → eqb on j ≡ a → (b : Bool)
+          stored : (j : ℕ) (q : S) → suc k < j → j ≤ length code → so_far (suc k) j ≡ Some q → (a : Bool) → eqb on j ≡ a → (b : Bool)
               → eqb to j ≡ b → arriving j (arrow_to on y ++ arrow_to to z) ≡ arrived a b y z → R (get_or (set (set w to u) on v) j d) q
           stored j q lo hi sf true p b p' m =
               let is : on ≡ j = eqb-true on j p in

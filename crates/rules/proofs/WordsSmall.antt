@@ -1,7 +1,7 @@
 -- Every word of an answer in words fits 32 bits: counts, places, lengths and steps are all small.
 use mathlib.Core.Path.{◌≡◌, refl}
 use mathlib.Core.List.{List, [], ◌∷◌}
-use mathlib.Core.Option.{Option, none, some}
+use Rattle.std.specs.Prelude.{Option, None, Some}
 use mathlib.Core.Bool.{Bool, true, false, ◌&&◌}
 use Prim.Native.Nat.{ℕ, ◌+◌, ◌≤◌, ◌<◌, zero-le}
 use native.Mathlib.Omega.{arith}
@@ -144,14 +144,14 @@ few_constructors file s e = (limits ((check_exact file s).0 e).typed.flowing.bou
 
 module _ {s : Program} (L : Limits s) where
   -- a number that names a constructor or a function is below their count
-  constructor_below : (c : ℕ) {k : Constructor} → constructor s c ≡ some k → c < 64
+  constructor_below : (c : ℕ) {k : Constructor} → constructor s c ≡ Some k → c < 64
   constructor_below c e = le_trans (at_less s.constructors c e) L.constructors_most
 
-  function_below : (n : ℕ) {f : Function} → function s n ≡ some f → n < 32
+  function_below : (n : ℕ) {f : Function} → function s n ≡ Some f → n < 32
   function_below n e = le_trans (at_less s.functions n e) L.functions_most
 
   -- what holds of every function, of one by its number
-  small_function : (n : ℕ) {f : Function} → function s n ≡ some f → (arity f ≤ 4) × (length f.code ≤ 256)
+  small_function : (n : ℕ) {f : Function} → function s n ≡ Some f → (arity f ≤ 4) × (length f.code ≤ 256)
   small_function n e = all_at n L.functions_small e
 
   -- 5 names a constructor or a function, 6 a function and one of its arguments
@@ -164,7 +164,7 @@ module _ {s : Program} (L : Limits s) where
       (omega arith, omega (arith, function_below g at), omega (arith, (small_function g at).0, h))
 
   -- 7 to 10 and 14 to 17 name a function and an instruction of its code
-  place_fits : (number n i : ℕ) (f : Function) → number < 20 → function s n ≡ some f → i ≤ length f.code → Fits (refusal number n i)
+  place_fits : (number n i : ℕ) (f : Function) → number < 20 → function s n ≡ Some f → i ≤ length f.code → Fits (refusal number n i)
   place_fits number n i f h at l = (omega arith, omega (arith, function_below n at), omega (arith, (small_function n at).1, l))
 
 -- past the code there is no instruction at which the types could fail: what obeys the rules before such a place obeys them at it too
@@ -286,10 +286,10 @@ module _ {s : Program} (L : Limits s) where
   frame_fits : (number limit : ℕ) (fr : Frame) → number < 20 → Kept s limit fr → Fits (refusal number fr.function fr.instruction)
   frame_fits number limit fr h k = one (function s fr.function) refl k.worked_out_lem
     where
-      one : (o : Option Function) → function s fr.function ≡ o → worked_out s o fr.function fr.instruction ≡ some k.types
+      one : (o : Option Function) → function s fr.function ≡ o → worked_out s o fr.function fr.instruction ≡ Some k.types
           → Fits (refusal number fr.function fr.instruction)
-      one none e w = none_some w
-      one (some f) e w =
+      one None e w = none_some w
+      one (Some f) e w =
           let stands = state_stands (type_rule s fr.function f) (root_at 1 f.parameters) f.code fr.instruction w in
           place_fits L number fr.function fr.instruction f h e (slot_low fr.instruction f.code stands.4).1
 
@@ -314,8 +314,8 @@ module _ (file : List ℕ) (small : Bytes file) (entry : ℕ) (entry_small : ent
     L = limits ((check_exact file s).0 e).typed.flowing.bounded.declared.read
 
     -- how it ends: with its steps, which the budget limits, and a result, which `result_fact` limits, or the place of the top frame
-    ends_fit : (f : Function) → function s entry ≡ some f → arguments_right s f args ≡ passed → Typed s (values s args) f.parameters
-        → (limit cells room steps : ℕ) (st : State) (x : Ending (List ℕ)) → steps ≤ budget → after s steps begin ≡ some st
+    ends_fit : (f : Function) → function s entry ≡ Some f → arguments_right s f args ≡ passed → Typed s (values s args) f.parameters
+        → (limit cells room steps : ℕ) (st : State) (x : Ending (List ℕ)) → steps ≤ budget → after s steps begin ≡ Some st
         → Ends s f limit (usable lent) budget room begin cells steps st x → Words (end_words (measured_ending x) steps)
     ends_fit f at right typed limit cells room steps st x le r ends = one x ends
       where
@@ -328,7 +328,7 @@ module _ (file : List ℕ) (small : Bytes file) (entry : ℕ) (entry_small : ent
         stands : (number : ℕ) → number < 20 → Fits (refusal_at number st)
         stands number h = state_fits L number _ st h ((tally_promise file s e).states entry f at (values s args) typed steps st r).frames
 
-        long : (v : Value) → result_of s st ≡ some v → length (written v) < 4294967296
+        long : (v : Value) → result_of s st ≡ Some v → length (written v) < 4294967296
         long v q = result_fact file s small e entry f at args right steps st v r q
 
         one : (x : Ending (List ℕ)) → Ends s f limit (usable lent) budget room begin cells steps st x

@@ -1,19 +1,14 @@
 -- What the code's answers say, in the numbers and places of documents 01 and 02: `refusal_of` is the one definition of them.
 use Rattle.std.specs.Prelude.{if◌then◌else◌, List, [], ◌∷◌, ◌++◌, ℕ, length, get_or, leb}
+use Rattle.std.specs.Prelude.{Result, Ok, Err}
 use Rattle.rules.specs.declared.answers.Place.{Place}
 use Rattle.rules.specs.declared.answers.Reason.{Reason}
 use Rattle.rules.specs.declared.answers.Reason.TheVariants as reason
 use Rattle.rules.specs.declared.answers.Counts.{Counts}
-use Rattle.rules.specs.declared.answers.Verdict.{Verdict}
-use Rattle.rules.specs.declared.answers.Verdict.TheVariants as verdict
-use Rattle.rules.specs.declared.answers.Length.{Length}
-use Rattle.rules.specs.declared.answers.Length.TheVariants as long
-use Rattle.rules.specs.declared.answers.Checked.{Checked}
-use Rattle.rules.specs.declared.answers.Checked.TheVariants as rule
 use Rattle.rules.specs.declared.answers.Ending as ending
 use Rattle.rules.specs.declared.answers.Ending.TheVariants as ends
 use Rattle.rules.specs.declared.answers.Answer as answers
-use Rattle.rules.specs.Base.{Refusal, refusal, Tried, found, refused, Check, passed}
+use Rattle.rules.specs.Base.{Refusal, refusal, Tried, found, refused}
 use Rattle.rules.specs.Container.{bytes4}
 use Rattle.rules.specs.Memory.{front_written}
 use Rattle.rules.specs.Run.{Ending, finished, aborted, refused_with, Answer, answer}
@@ -46,24 +41,15 @@ refusal_of (reason.OutOfFrames p) = at_place 17 p
 refusal_of reason.BadTable = refusal 19 0 0
 refusal_of (reason.BadLine line) = refusal 20 line 0
 
--- check: `told r ≡ verdict_of (now file.entry)`
-abbrev pub told : Verdict → Tried Counts
-told (verdict.Accepted counts) = found counts
-told (verdict.Refused r) = refused (refusal_of r)
+-- check, verify, pack, unpack, lines, and each pass of the check: `told r ≡ verdict_of (now file.entry)`
+abbrev pub told : {A : Type 0} → Result A Reason → Tried A
+told (Ok x) = found x
+told (Err r) = refused (refusal_of r)
 
--- pack, unpack and lines: `told_length r ≡ length_of (pack (now payload.entry) (length (now out.entry)))`
-abbrev pub told_length : Length → Tried ℕ
-told_length (long.Bytes n) = found n
-told_length (long.Refused r) = refused (refusal_of r)
-
+-- what pack, unpack and lines write, by its length: `told r ≡ length_of (pack (now payload.entry) (length (now out.entry)))`
 abbrev pub length_of : Tried (List ℕ) → Tried ℕ
 length_of (found bytes) = found (length bytes)
 length_of (refused r) = refused r
-
--- a pass of the check: `told_check r ≡ flow_right (program_of ..)`
-abbrev pub told_check : Checked → Check
-told_check rule.Right = passed
-told_check (rule.Refused r) = refused (refusal_of r)
 
 -- run: `told_run r ≡ measured (run ..)`, "the answer gives the figure's length"
 abbrev pub told_ending : ending.Ending → Ending ℕ

@@ -1,8 +1,7 @@
 -- The rule of 12 as document 01 words it: which argument bytes are right, and where wrong ones first go wrong.
 -- `argument_exact` of proofs/ArgumentExact.antt shows that the argument check answers just so.
 use Rattle.std.specs.Prelude.{◌≡◌, List, [], ◌∷◌, ◌++◌, ℕ, ◌≤◌, ◌<◌, length, take}
-use Rattle.std.proofs.Math.Option.{none, some}
-use Rattle.std.proofs.Math.ListN.{get_elem?}
+use Rattle.std.specs.Prelude.{None, Some, slice_get}
 use Rattle.rules.specs.Base.{Refusal, refusal, Decides}
 use Rattle.rules.specs.Program.{Constructor, Function, Program, constructor}
 use Rattle.rules.specs.Tree.{from_list}
@@ -15,7 +14,7 @@ module _ (s : Program) where
   -- last types are still to be read behind them. A byte is the constructor of the next value, whose arguments are then to be read first
   pub data Reads : List ℕ → List ℕ → List ℕ → Type 0 where
     no_byte : {ts : List ℕ} → Reads ts [] ts
-    byte : {c : ℕ} {k : Constructor} {ts bytes left : List ℕ} → constructor s c ≡ some k → Reads (k.arguments ++ ts) bytes left
+    byte : {c : ℕ} {k : Constructor} {ts bytes left : List ℕ} → constructor s c ≡ Some k → Reads (k.arguments ++ ts) bytes left
         → Reads (k.result ∷ ts) (c ∷ bytes) left
 
   -- "Values still to be read, remaining arguments included, never exceed 256": after each of the first o bytes
@@ -29,14 +28,14 @@ module _ (s : Program) where
   -- "unknown constructor, wrong type, cut short, left over, over 256 pending after that byte": what is wrong at an offset, where all is
   -- right up to it. Bytes that are cut short are wrong behind the last one
   pub data WrongAt (ts bytes : List ℕ) (o : ℕ) : Type 0 where
-    unknown : {c t : ℕ} {pending : List ℕ} → RightTo ts bytes o (t ∷ pending) → get_elem? bytes o ≡ some c → constructor s c ≡ none
+    unknown : {c t : ℕ} {pending : List ℕ} → RightTo ts bytes o (t ∷ pending) → slice_get bytes o ≡ Some c → constructor s c ≡ None
         → WrongAt ts bytes o
-    wrong_type : {c t : ℕ} {k : Constructor} {pending : List ℕ} → RightTo ts bytes o (t ∷ pending) → get_elem? bytes o ≡ some c
-        → constructor s c ≡ some k → (k.result ≡ t → ⊥) → WrongAt ts bytes o
+    wrong_type : {c t : ℕ} {k : Constructor} {pending : List ℕ} → RightTo ts bytes o (t ∷ pending) → slice_get bytes o ≡ Some c
+        → constructor s c ≡ Some k → (k.result ≡ t → ⊥) → WrongAt ts bytes o
     cut_short : {t : ℕ} {pending : List ℕ} → RightTo ts bytes o (t ∷ pending) → o ≡ length bytes → WrongAt ts bytes o
     left_over : RightTo ts bytes o [] → o < length bytes → WrongAt ts bytes o
-    too_many : {c t : ℕ} {k : Constructor} {pending : List ℕ} → RightTo ts bytes o (t ∷ pending) → get_elem? bytes o ≡ some c
-        → constructor s c ≡ some k → k.result ≡ t → 256 < length (k.arguments ++ pending) → WrongAt ts bytes o
+    too_many : {c t : ℕ} {k : Constructor} {pending : List ℕ} → RightTo ts bytes o (t ∷ pending) → slice_get bytes o ≡ Some c
+        → constructor s c ≡ Some k → k.result ≡ t → 256 < length (k.arguments ++ pending) → WrongAt ts bytes o
 
 -- "Arguments are constructor numbers in prefix order, one byte each, at most 65,535": the bytes are what is written of values of the
 -- parameters' types, first parameter first

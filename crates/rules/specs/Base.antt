@@ -1,6 +1,7 @@
 -- What every rule uses: a refusal, an answer or a refusal, tests on lists, numbers in bytes.
-use Rattle.std.specs.Prelude.{◌≡◌, List, [], ◌∷◌, Bool, true, false, ◌&&◌, ◌||◌, ◌↔◌, ℕ, zero, suc, ◌+◌, ◌*◌, get_or, leb, eqb}
-use Rattle.std.proofs.Math.Option.{Option, none, some}
+use Rattle.std.specs.Prelude.{◌≡◌, List, [], ◌∷◌, Bool, true, false, ◌&&◌, ◌↔◌, ℕ, zero, suc, ◌+◌, ◌*◌, get_or, leb, eqb}
+use Rattle.std.specs.Prelude.{Option, None, Some}
+use Rattle.std.specs.List.{list_all, list_any}
 
 -- "Each carries two place numbers": a number of document 01's list with its two places
 pub record Refusal : Type 0 where
@@ -38,8 +39,8 @@ require true r = passed
 require false r = refused r
 
 abbrev pub or_refuse : {A : Type 0} → Option A → Refusal → Tried A
-or_refuse none r = refused r
-or_refuse (some a) r = found a
+or_refuse None r = refused r
+or_refuse (Some a) r = found a
 
 -- what was found is forgotten
 abbrev pub only : {A : Type 0} → Tried A → Check
@@ -77,12 +78,10 @@ abbrev pub is_zero : ℕ → Bool
 is_zero n = eqb n 0
 
 abbrev pub all : {A : Type 0} → (A → Bool) → List A → Bool
-all p [] = true
-all p (x ∷ xs) = p x && all p xs
+all p xs = list_all p xs
 
 abbrev pub any : {A : Type 0} → (A → Bool) → List A → Bool
-any p [] = false
-any p (x ∷ xs) = p x || any p xs
+any p xs = list_any p xs
 
 ---- "numbers are little-endian"
 

@@ -1,7 +1,7 @@
 -- What soundness gives the code and what holds of every run: numbers that fit, cases that do not come up, bytes that are read back, room
 -- that does not matter. Each is proved in proofs/.
 use Rattle.std.specs.Prelude.{◌≡◌, List, [], ◌∷◌, ℕ, ◌≤◌, ◌<◌, zero, suc, ◌*◌, length}
-use Rattle.std.proofs.Math.Option.{some}
+use Rattle.std.specs.Prelude.{Some}
 use Rattle.rules.specs.declared.records.Alternative.{Alternative}
 use Rattle.rules.specs.declared.records.Instruction.TheVariants.{Branch}
 use Rattle.rules.specs.Lists.{All, Bytes}
@@ -37,8 +37,8 @@ NumberFact =
 abbrev pub ResultFact : Type 0
 ResultFact =
     (file : List ℕ) (s : Program) → Bytes file → checked file ≡ found s
-    → (entry : ℕ) (f : Function) → function s entry ≡ some f → (arguments : List ℕ) → arguments_right s f arguments ≡ passed
-    → (k : ℕ) (st : State) (v : Value) → after s k (start entry (values s arguments)) ≡ some st → result_of s st ≡ some v
+    → (entry : ℕ) (f : Function) → function s entry ≡ Some f → (arguments : List ℕ) → arguments_right s f arguments ≡ passed
+    → (k : ℕ) (st : State) (v : Value) → after s k (start entry (values s arguments)) ≡ Some st → result_of s st ≡ Some v
     → length (written v) < 4294967296
 
 -- Types without sizes are enough to go on: where 4, 7 and 8 hold, whatever the size bounds say, each state that is reached has the result,
@@ -46,8 +46,8 @@ ResultFact =
 abbrev pub ProgressFact : Type 0
 ProgressFact =
     (payload : List ℕ) (s : Program) → decode payload ≡ found s → flow_right s ≡ passed → types_right s ≡ passed
-    → (n : ℕ) (f : Function) → function s n ≡ some f → (us : List Value) → Typed s us f.parameters
-    → (k : ℕ) (st : State) → after s k (start n us) ≡ some st → Lives s st × Waiting s st
+    → (n : ℕ) (f : Function) → function s n ≡ Some f → (us : List Value) → Typed s us f.parameters
+    → (k : ℕ) (st : State) → after s k (start n us) ≡ Some st → Lives s st × Waiting s st
 
 -- an alternative has 16 coefficients of at most c, and a constant of at most k
 abbrev pub Fits16 : ℕ → ℕ → Alternative → Type 0
@@ -57,10 +57,10 @@ Fits16 c k a = (length a.coefficients ≡ 16) × All (λ m. m ≤ c) a.coefficie
 -- and what a build or call makes of the top four or fewer
 abbrev pub CoverFact : Type 0
 CoverFact =
-    (file : List ℕ) (s : Program) → Bytes file → checked file ≡ found s → (n : ℕ) (f : Function) → function s n ≡ some f
-    → (i : ℕ) (shape : Shape) → shape_at s n f i ≡ some shape
+    (file : List ℕ) (s : Program) → Bytes file → checked file ≡ found s → (n : ℕ) (f : Function) → function s n ≡ Some f
+    → (i : ℕ) (shape : Shape) → shape_at s n f i ≡ Some shape
     → All (λ e. All (Fits16 15 126735) (form_of s e)) shape.stack
-    × ((k : ℕ) (parts : List Expression × List Expression) → k ≤ 4 → split k shape.stack ≡ some parts → (symbol : Symbol)
+    × ((k : ℕ) (parts : List Expression × List Expression) → k ≤ 4 → split k shape.stack ≡ Some parts → (symbol : Symbol)
     → All (Fits16 900 7669635) (form_of s (made symbol parts.1)))
 
 -- an expression of variables and known constructors: nothing in it was built or called
@@ -76,8 +76,8 @@ Plain e = Every Unmade e
 -- At each visited branch nothing built and no call's result is on the stack, so the cases of `branch_on` for these do not come up
 abbrev pub BranchFact : Type 0
 BranchFact =
-    (file : List ℕ) (s : Program) → checked file ≡ found s → (n : ℕ) (f : Function) → function s n ≡ some f
-    → (i : ℕ) (shape : Shape) → shape_at s n f i ≡ some shape → (c b : ℕ) → slot i f.code ≡ some (Branch c b)
+    (file : List ℕ) (s : Program) → checked file ≡ found s → (n : ℕ) (f : Function) → function s n ≡ Some f
+    → (i : ℕ) (shape : Shape) → shape_at s n f i ≡ Some shape → (c b : ℕ) → slot i f.code ≡ Some (Branch c b)
     → All Plain shape.stack
 
 -- Arguments that pass the argument check are values of the declared types, and what is written of these values is the bytes read
@@ -111,14 +111,14 @@ HeapFact = (s : Program) → length s.constructors ≤ 64 → (m : Tables) (budg
 -- most 16
 abbrev pub SizeFact : Type 0
 SizeFact =
-    (file : List ℕ) (s : Program) → checked file ≡ found s → (n : ℕ) (f : Function) → function s n ≡ some f
-    → (i : ℕ) (shape : Shape) → shape_at s n f i ≡ some shape → (sizes : List ℕ) → length sizes ≤ 16 → Correct s sizes f shape
+    (file : List ℕ) (s : Program) → checked file ≡ found s → (n : ℕ) (f : Function) → function s n ≡ Some f
+    → (i : ℕ) (shape : Shape) → shape_at s n f i ≡ Some shape → (sizes : List ℕ) → length sizes ≤ 16 → Correct s sizes f shape
 
 -- Definition 1: where the check accepts, the type stacks that obey Table 2 are those that it works out, so there is one table T
 abbrev pub TypesFact : Type 0
 TypesFact =
-    (file : List ℕ) (s : Program) → checked file ≡ found s → (n : ℕ) (f : Function) → function s n ≡ some f
-    → (T : ℕ → List ℕ) → WellTyped s f T → (i : ℕ) (ins : Instruction) → slot i f.code ≡ some ins → types_at s n f i ≡ some (T i)
+    (file : List ℕ) (s : Program) → checked file ≡ found s → (n : ℕ) (f : Function) → function s n ≡ Some f
+    → (T : ℕ → List ℕ) → WellTyped s f T → (i : ℕ) (ins : Instruction) → slot i f.code ≡ Some ins → types_at s n f i ≡ Some (T i)
 
 -- "Substituting into an alternative takes every choice of one alternative from each argument whose coefficient is not 0; nothing is dropped
 -- as a duplicate": so many alternatives come of it

@@ -1,6 +1,6 @@
 -- The flow rules, 7, as relations: of paths and arrivals. Document 01, "Flow"; 001's restrictions on the flow graph.
 use Rattle.std.specs.Prelude.{◌≡◌, List, ℕ, ◌+◌, ◌≤◌, ◌<◌, length}
-use Rattle.std.proofs.Math.Option.{some}
+use Rattle.std.specs.Prelude.{Some}
 use Rattle.rules.specs.declared.records.Instruction.{Instruction}
 use Rattle.rules.specs.declared.records.Instruction.TheVariants.{Load, Build, Call, Branch, Return, Stop}
 use Rattle.rules.specs.Stacks.{slot}
@@ -18,7 +18,7 @@ module _ (code : List Instruction) where
   -- j can follow instruction i, which is earlier
   pub record Leads (i j : ℕ) : Type 0 where
     pub ins : Instruction
-    pub stands : slot i code ≡ some ins
+    pub stands : slot i code ≡ Some ins
     pub names : 1 ≤ hits j (targets i ins)
     pub ahead : i < j
 
@@ -50,11 +50,11 @@ module _ (code : List Instruction) where
     pub goes : GoesOn i ins
 
   abbrev pub AllFlow : Type 0
-  AllFlow = (i : ℕ) (ins : Instruction) → slot i code ≡ some ins → Flows i ins
+  AllFlow = (i : ℕ) (ins : Instruction) → slot i code ≡ Some ins → Flows i ins
 
   -- the rules hold before instruction i, and not at it
   pub record FlowFails (i : ℕ) : Type 0 where
-    pub before : (j : ℕ) (ins : Instruction) → j < i → slot j code ≡ some ins → Flows j ins
+    pub before : (j : ℕ) (ins : Instruction) → j < i → slot j code ≡ Some ins → Flows j ins
     pub ins : Instruction
-    pub stands : slot i code ≡ some ins
+    pub stands : slot i code ≡ Some ins
     pub here : Flows i ins → ⊥

@@ -1,6 +1,6 @@
 -- Size forms and the cover test. Document 01, "Size forms" and "Cover".
 use Rattle.std.specs.Prelude.{List, [], ◌∷◌, ◌++◌, map, Bool, true, ◌&&◌, ℕ, zero, suc, ◌+◌, ◌*◌, length, replicate, set, leb}
-use Rattle.std.proofs.Math.Option.{Option, none, some}
+use Rattle.std.specs.Prelude.{Option, None, Some}
 use Rattle.rules.specs.declared.records.Alternative.{Alternative}
 use Rattle.rules.specs.Base.{is_zero, all, any}
 use Rattle.rules.specs.Program.{Constructor, Function, Program, constructor, function}
@@ -48,12 +48,12 @@ into_bound bound forms = flat_map (λ a. substituted a.coefficients a.constant f
 
 -- "A build is the single alternative of coefficients 1 and its weight"
 unfoldable pub built_form : Option Constructor → List Form → Form
-built_form none forms = []
-built_form (some k) forms = substituted (replicate (length k.arguments) 1) k.weight forms
+built_form None forms = []
+built_form (Some k) forms = substituted (replicate (length k.arguments) 1) k.weight forms
 
 unfoldable pub called_form : Option Function → List Form → Form
-called_form none forms = []
-called_form (some g) forms = into_bound g.bound forms
+called_form None forms = []
+called_form (Some g) forms = into_bound g.bound forms
 
 module _ (s : Program) where
   -- the size form of an expression

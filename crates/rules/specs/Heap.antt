@@ -3,7 +3,7 @@
 -- machine and not of the one over values.
 use Rattle.std.specs.Prelude.{if◌then◌else◌, List, [], ◌∷◌, ◌++◌, map, Bool, ℕ, zero, suc, ◌+◌, ◌-◌, ◌<◌, length, get_or, take, drop, eqb}
 use Rattle.std.specs.Prelude.{ltb}
-use Rattle.std.proofs.Math.Option.{Option, none, some}
+use Rattle.std.specs.Prelude.{Option, None, Some}
 use Rattle.rules.specs.declared.records.Instruction.{Instruction}
 use Rattle.rules.specs.declared.records.Instruction.TheVariants.{Load, Build, Call, Branch, Return, Stop}
 use Rattle.rules.specs.Lists.{All}
@@ -104,45 +104,45 @@ place_of fr = record { function = fr.function; instruction = fr.instruction; sta
 module _ (s : Program) where
   -- the waiting call's arguments give way to the reference that is returned
   unfoldable pub answered_with : HeapFrame → ℕ → Instruction → Option HeapFrame
-  answered_with fr k (Load a) = none
-  answered_with fr k (Build c) = none
+  answered_with fr k (Load a) = None
+  answered_with fr k (Build c) = None
   answered_with fr k (Call g) = do
     f ← function s g
     parts ← split (length f.parameters) fr.stack
-    some (heap_onward fr (push parts.0 k))
-  answered_with fr k (Branch c b) = none
-  answered_with fr k Return = none
-  answered_with fr k Stop = none
+    Some (heap_onward fr (push parts.0 k))
+  answered_with fr k (Branch c b) = None
+  answered_with fr k Return = None
+  answered_with fr k Stop = None
 
   -- the machine's table once more, with references for values: only a build changes the heap
   unfoldable pub execute_on : Heap → Instruction → HeapFrame → List HeapFrame → Option HeapState
   execute_on heap (Load a) fr others = do
     k ← slot a fr.stack
-    some (heap_state heap (heap_onward fr (push fr.stack k) ∷ others))
+    Some (heap_state heap (heap_onward fr (push fr.stack k) ∷ others))
   execute_on heap (Build c) fr others = do
     d ← constructor s c
     parts ← split (length d.arguments) fr.stack
     let new = allocated heap c parts.1
-    some (heap_state new.0 (heap_onward fr (push parts.0 new.1) ∷ others))
+    Some (heap_state new.0 (heap_onward fr (push parts.0 new.1) ∷ others))
   execute_on heap (Call g) fr others = do
     f ← function s g
     parts ← split (length f.parameters) fr.stack
-    some (heap_state heap (entered g parts.1 ∷ fr ∷ others))
+    Some (heap_state heap (entered g parts.1 ∷ fr ∷ others))
   execute_on heap (Branch c b) fr others = do
     parts ← split 1 fr.stack
     k ← slot 1 parts.1
     let taken = heap_onward fr (parts.0 ++ arguments_of heap k)
-    some (heap_state heap ((if eqb (constructor_of heap k) c then taken else heap_frame_at b fr fr.stack) ∷ others))
-  execute_on heap Return fr [] = none
+    Some (heap_state heap ((if eqb (constructor_of heap k) c then taken else heap_frame_at b fr fr.stack) ∷ others))
+  execute_on heap Return fr [] = None
   execute_on heap Return fr (waiting ∷ others) = do
     k ← top fr.stack
     ins ← current s (place_of waiting)
     back ← answered_with waiting k ins
-    some (heap_state heap (back ∷ others))
-  execute_on heap Stop fr others = some (heap_state heap [])
+    Some (heap_state heap (back ∷ others))
+  execute_on heap Stop fr others = Some (heap_state heap [])
 
   unfoldable pub step_on : Heap → List HeapFrame → Option HeapState
-  step_on heap [] = none
+  step_on heap [] = None
   step_on heap (fr ∷ others) = current s (place_of fr) >>= (λ ins. execute_on heap ins fr others)
 
   abbrev pub heap_step : HeapState → Option HeapState

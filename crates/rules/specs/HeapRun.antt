@@ -1,6 +1,6 @@
 -- The run over heap cells, under a step budget and tables of given lengths.
 use Rattle.std.specs.Prelude.{List, [], ◌∷◌, ℕ, zero, suc, length}
-use Rattle.std.proofs.Math.Option.{Option, none, some}
+use Rattle.std.specs.Prelude.{Option, None, Some}
 use Rattle.rules.specs.Base.{refusal, Tried, found, refused, ◌>>=◌, or_refuse}
 use Rattle.rules.specs.Program.{Program}
 use Rattle.rules.specs.Machine.{◌>>=◌ as ◌>>=ᵒ◌, current, returned}
@@ -11,14 +11,14 @@ use Rattle.rules.specs.Run.{Tables, Ending, finished, aborted, refused_with, Out
 module _ (s : Program) where
   -- a reference to the result, where the only frame stands at a return
   unfoldable pub result_on : List HeapFrame → Option ℕ
-  result_on [] = none
+  result_on [] = None
   result_on (fr ∷ []) = current s (place_of fr) >>=ᵒ (λ ins. returned s ins fr.stack)
-  result_on (fr ∷ waiting ∷ others) = none
+  result_on (fr ∷ waiting ∷ others) = None
 
   -- how a state ends the run, if it does
   unfoldable pub end_on : Heap → List HeapFrame → Option (Ending (List ℕ))
-  end_on heap [] = some aborted
-  end_on heap (fr ∷ others) = result_on (fr ∷ others) >>=ᵒ (λ k. some (finished (written (value_of heap k))))
+  end_on heap [] = Some aborted
+  end_on heap (fr ∷ others) = result_on (fr ∷ others) >>=ᵒ (λ k. Some (finished (written (value_of heap k))))
 
   -- a step where the tables have room for the state after it: its cells are those of the heap
   unfoldable pub step_on_within : Tables → Heap → List HeapFrame → Tried HeapState
@@ -32,13 +32,13 @@ module _ (s : Program) where
   unfoldable pub continued_on : Tables → ℕ → ℕ → HeapState → Outcome
   continued_on m zero steps h =
       elim (end_on h.heap h.frames) [
-        | some e ↦ answer e steps
-        | none ↦ answer (refused_with (refusal_at 14 (state_of h))) steps
+        | Some e ↦ answer e steps
+        | None ↦ answer (refused_with (refusal_at 14 (state_of h))) steps
       ]
   continued_on m (suc left) steps h =
       elim (end_on h.heap h.frames) [
-        | some e ↦ answer e steps
-        | none ↦ elim (step_on_within m h.heap h.frames) [
+        | Some e ↦ answer e steps
+        | None ↦ elim (step_on_within m h.heap h.frames) [
           | found next ↦ continued_on m left (suc steps) next
           | refused r ↦ answer (refused_with r) steps
         ]

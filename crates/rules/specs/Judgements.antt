@@ -1,7 +1,7 @@
 -- 001's rules as it prints them: relations on whole tables, beside the walks that compute the tables.
 -- `check_exact` of proofs/CheckExact.antt shows that the check accepts just where these relations and document 01's limits hold.
 use Rattle.std.specs.Prelude.{◌≡◌, List, ◌++◌, map, ℕ, suc, ◌+◌, ◌≤◌, ◌<◌, length, get_or}
-use Rattle.std.proofs.Math.Option.{Option, some}
+use Rattle.std.specs.Prelude.{Option, Some}
 use Rattle.rules.specs.declared.records.Alternative.{Alternative}
 use Rattle.rules.specs.declared.records.Instruction.{Instruction}
 use Rattle.rules.specs.declared.records.Instruction.TheVariants.{Load, Build, Call, Branch, Return, Stop}
@@ -24,15 +24,15 @@ module _ (s : Program) (f : Function) (T : ℕ → List ℕ) where
   -- branch c j: T_i = T · t_0, T_{i+1} = T · t_1 .. t_n and T_j = T_i
   -- return n: T_i = T · t_0. stop: true
   abbrev pub wt : ℕ → Instruction → Type 0
-  wt i (Load k) = (i < last) × (t : ℕ) × (slot k (T i) ≡ some t) × (T (suc i) ≡ push (T i) t)
+  wt i (Load k) = (i < last) × (t : ℕ) × (slot k (T i) ≡ Some t) × (T (suc i) ≡ push (T i) t)
   wt i (Build c) =
-      (i < last) × (k : Constructor) × (constructor s c ≡ some k) × (rest : List ℕ) × (T i ≡ rest ++ k.arguments)
+      (i < last) × (k : Constructor) × (constructor s c ≡ Some k) × (rest : List ℕ) × (T i ≡ rest ++ k.arguments)
       × (T (suc i) ≡ push rest k.result)
   wt i (Call g) =
-      (i < last) × (k : Function) × (function s g ≡ some k) × (rest : List ℕ) × (T i ≡ rest ++ k.parameters)
+      (i < last) × (k : Function) × (function s g ≡ Some k) × (rest : List ℕ) × (T i ≡ rest ++ k.parameters)
       × (T (suc i) ≡ push rest k.result)
   wt i (Branch c j) =
-      (i < last) × (k : Constructor) × (constructor s c ≡ some k) × (rest : List ℕ) × (T i ≡ push rest k.result)
+      (i < last) × (k : Constructor) × (constructor s c ≡ Some k) × (rest : List ℕ) × (T i ≡ push rest k.result)
       × (T (suc i) ≡ rest ++ k.arguments) × (T j ≡ T i)
   wt i Return = (rest : List ℕ) × (T i ≡ push rest f.result)
   wt i Stop = Unit {0}
@@ -40,7 +40,7 @@ module _ (s : Program) (f : Function) (T : ℕ → List ℕ) where
   -- Table 2 at every instruction before m, with document 01's limit on the height
   pub record TypedBefore (m : ℕ) : Type 0 where
     pub start : T 1 ≡ f.parameters
-    pub instructions : (i : ℕ) (ins : Instruction) → i < m → slot i f.code ≡ some ins → wt i ins
+    pub instructions : (i : ℕ) (ins : Instruction) → i < m → slot i f.code ≡ Some ins → wt i ins
     pub low : (i : ℕ) → length (T i) ≤ 16
 
   -- Definition 1
@@ -62,28 +62,28 @@ module _ (s : Program) (n : ℕ) (f : Function) (S : ℕ → Option Shape) where
   -- a new entry over these expressions, whose form has at most 16 alternatives
   abbrev pub made_next : ℕ → Shape → List Expression → List Expression → Symbol → Type 0
   made_next i x rest es symbol =
-      (x.stack ≡ rest ++ es) × (length (form_of s (made symbol es)) ≤ 16) × (S (suc i) ≡ some (with_stack x (push rest (made symbol es))))
+      (x.stack ≡ rest ++ es) × (length (form_of s (made symbol es)) ≤ 16) × (S (suc i) ≡ Some (with_stack x (push rest (made symbol es))))
 
   -- branch c j on p, with n arguments: if p is a variable x then let σ' = [c(..)/x] in σ_j = σ_i, E_j = E_i, σ_{i+1} = σ' ∘ σ_i and E_{i+1}
   -- = σ'(E) · .., with at most 16 variables; else if p = c(e_1, .., e_n) the next instruction; else if p = d(..) with d ≠ c instruction j
   abbrev pub branch_on_lem : ℕ → Shape → List Expression → ℕ → ℕ → ℕ → Expression → Type 0
   branch_on_lem i x rest c args j (node (variable v) ts) =
-      (x.count + args ≤ 16) × (S (suc i) ≡ some (split_variable x rest v c args)) × (S j ≡ some x)
+      (x.count + args ≤ 16) × (S (suc i) ≡ Some (split_variable x rest v c args)) × (S j ≡ Some x)
   branch_on_lem i x rest c args j (node (known d) ts) =
-      (d ≡ c → S (suc i) ≡ some (with_stack x (rest ++ to_list ts))) × ((d ≡ c → ⊥) → S j ≡ some x)
+      (d ≡ c → S (suc i) ≡ Some (with_stack x (rest ++ to_list ts))) × ((d ≡ c → ⊥) → S j ≡ Some x)
   branch_on_lem i x rest c args j (node (built d) ts) = ⊥
   branch_on_lem i x rest c args j (node (called g) ts) = ⊥
 
   abbrev pub wsh : ℕ → Instruction → Shape → Type 0
-  wsh i (Load k) x = (e : Expression) × (slot k x.stack ≡ some e) × (S (suc i) ≡ some (with_stack x (push x.stack e)))
+  wsh i (Load k) x = (e : Expression) × (slot k x.stack ≡ Some e) × (S (suc i) ≡ Some (with_stack x (push x.stack e)))
   wsh i (Build c) x =
-      (k : Constructor) × (constructor s c ≡ some k) × (rest es : List Expression) × (length es ≡ length k.arguments)
+      (k : Constructor) × (constructor s c ≡ Some k) × (rest es : List Expression) × (length es ≡ length k.arguments)
       × made_next i x rest es (built c)
   wsh i (Call g) x =
-      (k : Function) × (function s g ≡ some k) × (rest es : List Expression) × (length es ≡ length k.parameters)
+      (k : Function) × (function s g ≡ Some k) × (rest es : List Expression) × (length es ≡ length k.parameters)
       × made_next i x rest es (called g)
   wsh i (Branch c j) x =
-      (k : Constructor) × (constructor s c ≡ some k) × (rest : List Expression) × (p : Expression) × (x.stack ≡ push rest p)
+      (k : Constructor) × (constructor s c ≡ Some k) × (rest : List Expression) × (p : Expression) × (x.stack ≡ push rest p)
       × branch_on_lem i x rest c (length k.arguments) j p
   wsh i Return x = Unit {0}
   wsh i Stop x = Unit {0}
@@ -91,9 +91,9 @@ module _ (s : Program) (n : ℕ) (f : Function) (S : ℕ → Option Shape) where
   -- Definition 2 at every visited instruction before m, and Definition 3 with document 01's cover test: the own bound at the parameters'
   -- shapes covers every entry
   pub record SizedBefore (m : ℕ) : Type 0 where
-    pub start : S 1 ≡ some (start_shape f)
-    pub instructions : (i : ℕ) (ins : Instruction) → i < m → slot i f.code ≡ some ins → (x : Shape) → S i ≡ some x → wsh i ins x
-    pub covered : (i : ℕ) (ins : Instruction) → i < m → slot i f.code ≡ some ins → (x : Shape) → S i ≡ some x → Covered s x
+    pub start : S 1 ≡ Some (start_shape f)
+    pub instructions : (i : ℕ) (ins : Instruction) → i < m → slot i f.code ≡ Some ins → (x : Shape) → S i ≡ Some x → wsh i ins x
+    pub covered : (i : ℕ) (ins : Instruction) → i < m → slot i f.code ≡ Some ins → (x : Shape) → S i ≡ Some x → Covered s x
 
   abbrev pub WellSized : Type 0
   WellSized = SizedBefore (suc (length f.code))

@@ -1,6 +1,6 @@
 -- Survey lines: the logger's text as a list argument. Document 02, ticket 1.
 use Rattle.std.specs.Prelude.{if◌then◌else◌, List, [], ◌∷◌, Bool, not, ◌&&◌, ℕ, zero, suc, ◌/◌, ◌%◌, length, take, drop, leb, eqb}
-use Rattle.std.proofs.Math.Option.{Option, none, some}
+use Rattle.std.specs.Prelude.{Option, None, Some}
 use Rattle.rules.specs.Base.{refusal, Tried, found, ◌>>=◌, require, or_refuse, within, is_zero, all, byte_at}
 
 ---- "The panel lends a table of four-byte entries (three letters, constructor)"
@@ -30,8 +30,8 @@ same_letters a b = eqb (byte_at a 0) (byte_at b 0) && eqb (byte_at a 1) (byte_at
 
 -- the constructor of a line's letters: "If letters stand twice, the earlier entry counts"
 unfoldable pub lookup : List (List ℕ) → List ℕ → Option ℕ
-lookup [] line = none
-lookup (entry ∷ more) line = if same_letters entry line then some (byte_at entry 3) else lookup more line
+lookup [] line = None
+lookup (entry ∷ more) line = if same_letters entry line then Some (byte_at entry 3) else lookup more line
 
 ---- "one find a line: three capital letters, then byte 10"
 
@@ -50,7 +50,7 @@ line_right line = eqb (length line) 4 && letters_right line && eqb (byte_at line
 
 -- a line's code: none if it is "malformed or its letters not in the table"
 unfoldable pub code : List (List ℕ) → List ℕ → Option ℕ
-code table line = if line_right line then lookup table line else none
+code table line = if line_right line then lookup table line else None
 
 -- the codes of lines, the first of them being line n: 20 at "the first line malformed or its letters not in the table"
 unfoldable pub codes : List (List ℕ) → ℕ → List (List ℕ) → Tried (List ℕ)

@@ -1,6 +1,6 @@
 -- The machine. Document 01, "The machine"; 001, Table 1. It has no limits.
 use Rattle.std.specs.Prelude.{if◌then◌else◌, List, [], ◌∷◌, ◌++◌, ℕ, zero, suc, length, eqb}
-use Rattle.std.proofs.Math.Option.{Option, none, some}
+use Rattle.std.specs.Prelude.{Option, None, Some}
 use Rattle.rules.specs.declared.records.Instruction.{Instruction}
 use Rattle.rules.specs.declared.records.Instruction.TheVariants.{Load, Build, Call, Branch, Return, Stop}
 use Rattle.rules.specs.Program.{Program, constructor, function}
@@ -10,8 +10,8 @@ use Rattle.rules.specs.Stacks.{slot, split, push}
 -- "Where something needed is missing there is no step and no figure"
 infixl 20 ◌>>=◌
 abbrev pub ◌>>=◌ : {A B : Type 0} → Option A → (A → Option B) → Option B
-none >>= f = none
-some a >>= f = f a
+None >>= f = None
+Some a >>= f = f a
 
 -- "A value is a constructor with its argument values"
 abbrev pub Value : Type 0
@@ -49,15 +49,15 @@ module _ (s : Program) where
 
   -- "below, the waiting call's n arguments give way to its top value; i + 1 there"
   unfoldable pub answered : Frame → Value → Instruction → Option Frame
-  answered fr v (Load a) = none
-  answered fr v (Build c) = none
+  answered fr v (Load a) = None
+  answered fr v (Build c) = None
   answered fr v (Call g) = do
     k ← function s g
     parts ← split (length k.parameters) fr.stack
-    some (onward fr (push parts.0 v))
-  answered fr v (Branch c b) = none
-  answered fr v Return = none
-  answered fr v Stop = none
+    Some (onward fr (push parts.0 v))
+  answered fr v (Branch c b) = None
+  answered fr v Return = None
+  answered fr v Stop = None
 
   -- the top frame's instruction, with the frames below it.
   -- Load: slot a is copied on top; then i + 1.
@@ -69,47 +69,47 @@ module _ (s : Program) where
   unfoldable pub execute : Instruction → Frame → List Frame → Option State
   execute (Load a) fr others = do
     v ← slot a fr.stack
-    some (onward fr (push fr.stack v) ∷ others)
+    Some (onward fr (push fr.stack v) ∷ others)
   execute (Build c) fr others = do
     k ← constructor s c
     parts ← split (length k.arguments) fr.stack
-    some (onward fr (push parts.0 (made c parts.1)) ∷ others)
+    Some (onward fr (push parts.0 (made c parts.1)) ∷ others)
   execute (Call g) fr others = do
     k ← function s g
     parts ← split (length k.parameters) fr.stack
-    some (start g parts.1 ++ fr ∷ others)
+    Some (start g parts.1 ++ fr ∷ others)
   execute (Branch c b) fr others = do
     parts ← split 1 fr.stack
     v ← slot 1 parts.1
-    some ((if eqb (label v) c then onward fr (parts.0 ++ arguments v) else frame_at b fr fr.stack) ∷ others)
-  execute Return fr [] = none
+    Some ((if eqb (label v) c then onward fr (parts.0 ++ arguments v) else frame_at b fr fr.stack) ∷ others)
+  execute Return fr [] = None
   execute Return fr (waiting ∷ others) = do
     v ← top fr.stack
     ins ← current waiting
     back ← answered waiting v ins
-    some (back ∷ others)
-  execute Stop fr others = some []
+    Some (back ∷ others)
+  execute Stop fr others = Some []
 
   -- "Only the top frame steps"
   unfoldable pub step : State → Option State
-  step [] = none
+  step [] = None
   step (fr ∷ others) = current fr >>= (λ ins. execute ins fr others)
 
   -- the state after n steps
   unfoldable pub after : ℕ → State → Option State
-  after zero st = some st
+  after zero st = Some st
   after (suc n) st = step st >>= (λ next. after n next)
 
   -- "In the only frame: no step, the top value is the figure", which is called result here
   unfoldable pub returned : {A : Type 0} → Instruction → List A → Option A
-  returned (Load a) stack = none
-  returned (Build c) stack = none
-  returned (Call g) stack = none
-  returned (Branch c b) stack = none
+  returned (Load a) stack = None
+  returned (Build c) stack = None
+  returned (Call g) stack = None
+  returned (Branch c b) stack = None
   returned Return stack = top stack
-  returned Stop stack = none
+  returned Stop stack = None
 
   unfoldable pub result_of : State → Option Value
-  result_of [] = none
+  result_of [] = None
   result_of (fr ∷ []) = current fr >>= (λ ins. returned ins fr.stack)
-  result_of (fr ∷ waiting ∷ others) = none
+  result_of (fr ∷ waiting ∷ others) = None

@@ -1,6 +1,6 @@
 -- Arguments and results in prefix order, one constructor number a byte, and the argument check, 12. Document 01, "The run".
 use Rattle.std.specs.Prelude.{List, [], ◌∷◌, ◌++◌, ◌&&◌, ℕ, suc, length, take, drop, leb, eqb}
-use Rattle.std.proofs.Math.Option.{Option, none, some}
+use Rattle.std.specs.Prelude.{Option, None, Some}
 use Rattle.rules.specs.Base.{refusal, Tried, found, refused, ◌>>=◌, Check, passed, require, or_refuse}
 use Rattle.rules.specs.Program.{Constructor, Function, Program, constructor}
 use Rattle.rules.specs.Tree.{Trees, node, nil, cons, made}
@@ -34,8 +34,8 @@ arguments_right s f bytes = do
 ---- Values from bytes and back
 
 unfoldable pub arity_of : Option Constructor → ℕ
-arity_of none = 0
-arity_of (some k) = length k.arguments
+arity_of None = 0
+arity_of (Some k) = length k.arguments
 
 -- how many arguments constructor c of a program has
 abbrev pub arity : Program → ℕ → ℕ

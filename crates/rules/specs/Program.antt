@@ -1,7 +1,6 @@
 -- A decoded program: its types, constructors and functions. Document 01 calls it a sheet.
 use Rattle.std.specs.Prelude.{List, ℕ, length}
-use Rattle.std.proofs.Math.Option.{Option, none, some}
-use Rattle.std.proofs.Math.ListN.{get_elem?}
+use Rattle.std.specs.Prelude.{Option, None, Some, slice_get}
 use Rattle.rules.specs.declared.records.Alternative.{Alternative}
 use Rattle.rules.specs.declared.records.Instruction.{Instruction}
 
@@ -29,12 +28,12 @@ arity f = length f.parameters
 
 -- "Numbers start at 0 for types, constructors and functions"
 abbrev pub constructor : Program → ℕ → Option Constructor
-constructor s c = get_elem? s.constructors c
+constructor s c = slice_get s.constructors c
 
 -- the weight of what is found, 0 of nothing
 abbrev pub weight_of : Option Constructor → ℕ
-weight_of none = 0
-weight_of (some k) = k.weight
+weight_of None = 0
+weight_of (Some k) = k.weight
 
 abbrev pub function : Program → ℕ → Option Function
-function s f = get_elem? s.functions f
+function s f = slice_get s.functions f

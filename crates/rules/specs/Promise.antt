@@ -1,7 +1,7 @@
 -- The tally promise, which is demand 3: what holds of every accepted program, every entry function and all arguments of the declared types.
 -- This file only states it; `tally_promise` of proofs/Promise.antt proves it.
 use Rattle.std.specs.Prelude.{◌≡◌, List, [], ◌∷◌, ℕ, zero, suc, ◌+◌, ◌≤◌, ◌<◌, length}
-use Rattle.std.proofs.Math.Option.{Option, none, some}
+use Rattle.std.specs.Prelude.{Option, None, Some}
 use Rattle.rules.specs.Lists.{All}
 use Rattle.rules.specs.declared.records.Instruction.TheVariants.{Call}
 use Rattle.rules.specs.Base.{Refusal, refusal, found, refused, passed}
@@ -18,20 +18,20 @@ use Rattle.rules.specs.Run.{refused_with, Outcome, answer, heights, refusal_at, 
 
 -- the stack's types that the check worked out at instruction i of function n; their number is "The height worked out at an instruction"
 abbrev pub worked_out : Program → Option Function → ℕ → ℕ → Option (List ℕ)
-worked_out s none n i = none
-worked_out s (some f) n i = types_at s n f i
+worked_out s None n i = None
+worked_out s (Some f) n i = types_at s n f i
 
 module _ (s : Program) where
   -- a state has given up (stop leaves no frame), has the result, or has a next step
   pub data Lives (st : State) : Type 0 where
     given_up : st ≡ [] → Lives st
-    has_result : (v : Value) → result_of s st ≡ some v → Lives st
-    goes_on_lem : (next : State) → step s st ≡ some next → Lives st
+    has_result : (v : Value) → result_of s st ≡ Some v → Lives st
+    goes_on_lem : (next : State) → step s st ≡ Some next → Lives st
 
   -- a frame has the height worked out at its instruction, at most 16, and values of the types worked out there, none larger than the limit
   pub record Kept (limit : ℕ) (fr : Frame) : Type 0 where
     pub types : List ℕ
-    pub worked_out_lem : worked_out s (function s fr.function) fr.function fr.instruction ≡ some types
+    pub worked_out_lem : worked_out s (function s fr.function) fr.function fr.instruction ≡ Some types
     pub height : length fr.stack ≡ length types
     pub low : length types ≤ 16
     pub typed : Typed s fr.stack types
@@ -41,7 +41,7 @@ module _ (s : Program) where
   abbrev pub Waiting : State → Type 0
   Waiting [] = Unit {0}
   Waiting (fr ∷ []) = Unit {0}
-  Waiting (above ∷ below ∷ others) = (current s below ≡ some (Call above.function)) × Waiting (below ∷ others)
+  Waiting (above ∷ below ∷ others) = (current s below ≡ Some (Call above.function)) × Waiting (below ∷ others)
 
   pub record Safe (limit : ℕ) (st : State) : Type 0 where
     pub lives : Lives st
@@ -59,8 +59,8 @@ abbrev pub takes : Program → State → ℕ
 takes = takes_by with_arguments
 
 abbrev pub builds_from : (State → ℕ) → Option State → ℕ
-builds_from count none = 0
-builds_from count (some next) = count next
+builds_from count None = 0
+builds_from count (Some next) = count next
 
 unfoldable pub builds_by : CellRule → Program → ℕ → State → ℕ
 builds_by rule s zero st = 0
@@ -85,34 +85,34 @@ module _ (s : Program) (f : Function) (limit : ℕ) (m : Tables) (budget room : 
   -- where the output has no room for it; given up; or, where there is a next state, with 14 if the budget is spent, else with 17, 16 or 15
   -- if the tables have no room for that state
   pub data Ends (steps : ℕ) (st : State) : Ending (List ℕ) → Type 0 where
-    with_result : (v : Value) → result_of s st ≡ some v → Has s v f.result → size s v ≤ limit → length (written v) ≤ room
+    with_result : (v : Value) → result_of s st ≡ Some v → Has s v f.result → size s v ≤ limit → length (written v) ≤ room
         → Ends steps st (finished (written v))
-    undelivered : (v : Value) → result_of s st ≡ some v → Has s v f.result → size s v ≤ limit → room < length (written v)
+    undelivered : (v : Value) → result_of s st ≡ Some v → Has s v f.result → size s v ≤ limit → room < length (written v)
         → Ends steps st (refused_with (refusal 13 (length (written v)) 0))
     stopped : st ≡ [] → Ends steps st aborted
-    spent : steps ≡ budget → (next : State) → step s st ≡ some next → Ends steps st (refused_with (refusal_at 14 st))
-    short : steps < budget → (next : State) → step s st ≡ some next → (number : ℕ)
+    spent : steps ≡ budget → (next : State) → step s st ≡ Some next → Ends steps st (refused_with (refusal_at 14 st))
+    short : steps < budget → (next : State) → step s st ≡ Some next → (number : ℕ)
         → NoRoom m next (cells + builds s (suc steps) begin) number → Ends steps st (refused_with (refusal_at number st))
 
   -- it goes through the machine's states: as many as its steps, within the budget, with room for each, and it ends at the last
   pub record Ran (a : Outcome) : Type 0 where
     pub last : State
-    pub reached : after s a.steps begin ≡ some last
+    pub reached : after s a.steps begin ≡ Some last
     pub within_budget : a.steps ≤ budget
-    pub fitted : (k : ℕ) (st : State) → k ≤ a.steps → after s k begin ≡ some st → Room m st (cells + builds s k begin)
+    pub fitted : (k : ℕ) (st : State) → k ≤ a.steps → after s k begin ≡ Some st → Room m st (cells + builds s k begin)
     pub ending : Ends a.steps last a.ending
 
 -- what a run answers: 11 where there is no such function; 12 where the argument check refuses; past that check the arguments are of the
 -- declared types, and the run is refused by 17, 16 or 15 at (entry, 1) where the tables have no room for the start, or it ran from there
 pub data Answers (s : Program) (entry : ℕ) (arguments : List ℕ) (budget : ℕ) (lent : Lent) (a : Outcome) : Type 0 where
-  no_entry : function s entry ≡ none → a ≡ answer (refused_with (refusal 11 entry 0)) 0 → Answers s entry arguments budget lent a
-  bad_arguments : (f : Function) → function s entry ≡ some f → (r : Refusal) → arguments_right s f arguments ≡ refused r
+  no_entry : function s entry ≡ None → a ≡ answer (refused_with (refusal 11 entry 0)) 0 → Answers s entry arguments budget lent a
+  bad_arguments : (f : Function) → function s entry ≡ Some f → (r : Refusal) → arguments_right s f arguments ≡ refused r
       → a ≡ answer (refused_with r) 0 → Answers s entry arguments budget lent a
-  no_room : (f : Function) → function s entry ≡ some f → arguments_right s f arguments ≡ passed
+  no_room : (f : Function) → function s entry ≡ Some f → arguments_right s f arguments ≡ passed
       → Typed s (values s arguments) f.parameters
       → (number : ℕ) → NoRoom (usable lent) (start entry (values s arguments)) (cells_loaded s arguments) number
       → a ≡ answer (refused_with (refusal number entry 1)) 0 → Answers s entry arguments budget lent a
-  began : (f : Function) → function s entry ≡ some f → arguments_right s f arguments ≡ passed → Typed s (values s arguments) f.parameters
+  began : (f : Function) → function s entry ≡ Some f → arguments_right s f arguments ≡ passed → Typed s (values s arguments) f.parameters
       → Ran s f (bound_at f.bound (sizes s (values s arguments))) (usable lent) budget lent.output (start entry (values s arguments))
       (cells_loaded s arguments) a
       → Answers s entry arguments budget lent a
@@ -123,8 +123,8 @@ pub data Answers (s : Program) (entry : ℕ) (arguments : List ℕ) (budget : �
 pub record Promised (file : List ℕ) (s : Program) : Type 0 where
   -- every state after any number of steps, from any entry function and values of its parameters' types; no value exceeds the entry's size
   -- bound
-  pub states : (n : ℕ) (f : Function) → function s n ≡ some f → (us : List Value) → Typed s us f.parameters
-      → (k : ℕ) (st : State) → after s k (start n us) ≡ some st → Safe s (bound_at f.bound (sizes s us)) st
+  pub states : (n : ℕ) (f : Function) → function s n ≡ Some f → (us : List Value) → Typed s us f.parameters
+      → (k : ℕ) (st : State) → after s k (start n us) ≡ Some st → Safe s (bound_at f.bound (sizes s us)) st
   -- every run, with any entry number, argument bytes, budget and lent lengths
   pub runs : (entry : ℕ) (arguments : List ℕ) (budget : ℕ) (lent : Lent)
       → Answers s entry arguments budget lent (run file entry arguments budget lent)

@@ -1,6 +1,6 @@
 -- 001's assignment q, which gives each expression a size where its variables have sizes, and the condition of its Definition 3.
 use Rattle.std.specs.Prelude.{List, [], ◌∷◌, map, ℕ, ◌+◌, ◌≤◌, get_or}
-use Rattle.std.proofs.Math.Option.{Option, none, some}
+use Rattle.std.specs.Prelude.{Option, None, Some}
 use Rattle.rules.specs.Lists.{All}
 use Rattle.rules.specs.Program.{Constructor, Function, Program, constructor, function}
 use Rattle.rules.specs.Tree.{Trees, node, nil, cons}
@@ -15,13 +15,13 @@ total (n ∷ ns) = n + total ns
 -- "if c is a constant then q_c is the constant 0"; "if c is a constructor with arity n ≥ 1 then q_c(x_1, .., x_n) = d + the sum of the x_i"
 abbrev pub of_constructor : Option Constructor → List ℕ → ℕ
 of_constructor o [] = 0
-of_constructor none (n ∷ ns) = 0
-of_constructor (some k) (n ∷ ns) = k.weight + total (n ∷ ns)
+of_constructor None (n ∷ ns) = 0
+of_constructor (Some k) (n ∷ ns) = k.weight + total (n ∷ ns)
 
 -- q_f: the function's size bound
 abbrev pub of_function : Option Function → List ℕ → ℕ
-of_function none ns = 0
-of_function (some f) ns = bound_at f.bound ns
+of_function None ns = 0
+of_function (Some f) ns = bound_at f.bound ns
 
 -- "q_x = x, q_{c(e_1, .., e_n)} = q_c(q_{e_1}, .., q_{e_n}), and q_{f(e_1, .., e_n)} = q_f(q_{e_1}, .., q_{e_n})", at these sizes of
 -- variables

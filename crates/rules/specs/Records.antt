@@ -1,7 +1,7 @@
 -- The records of a payload: where each stands, its bytes, whether its fields are in range (4), and what it says.
 -- Document 01, "Payload, in order" and number 4.
 use Rattle.std.specs.Prelude.{if◌then◌else◌, List, [], ◌∷◌, Bool, true, false, ◌&&◌, ℕ, zero, suc, ◌+◌, ◌*◌, length, take, drop, leb, eqb}
-use Rattle.std.proofs.Math.Option.{Option, none, some}
+use Rattle.std.specs.Prelude.{Option, None, Some}
 use Rattle.rules.specs.declared.records.Header.{Header}
 use Rattle.rules.specs.declared.records.Declaration.{Declaration}
 use Rattle.rules.specs.declared.records.ConstructorRecord.{ConstructorRecord}
@@ -86,21 +86,21 @@ alternative_right n r = past_zero n r.coefficients && all (λ c. leb c 15) r.coe
 -- b; 5 return; 6 stop"; "zero .. as are unused operands"
 unfoldable pub operation : InstructionRecord → Option Instruction
 operation r =
-    if eqb r.operation 1 && is_zero r.b then some (Load r.a) else
-    if eqb r.operation 2 && is_zero r.b then some (Build r.a) else
-    if eqb r.operation 3 && is_zero r.b then some (Call r.a) else
-    if eqb r.operation 4 then some (Branch r.a r.b) else
-    if eqb r.operation 5 && is_zero r.a && is_zero r.b then some Return else
-    if eqb r.operation 6 && is_zero r.a && is_zero r.b then some Stop else
-    none
+    if eqb r.operation 1 && is_zero r.b then Some (Load r.a) else
+    if eqb r.operation 2 && is_zero r.b then Some (Build r.a) else
+    if eqb r.operation 3 && is_zero r.b then Some (Call r.a) else
+    if eqb r.operation 4 then Some (Branch r.a r.b) else
+    if eqb r.operation 5 && is_zero r.a && is_zero r.b then Some Return else
+    if eqb r.operation 6 && is_zero r.a && is_zero r.b then Some Stop else
+    None
 
 abbrev pub is_some : {A : Type 0} → Option A → Bool
-is_some none = false
-is_some (some a) = true
+is_some None = false
+is_some (Some a) = true
 
 abbrev pub or_else : {A : Type 0} → Option A → A → A
-or_else none b = b
-or_else (some a) b = a
+or_else None b = b
+or_else (Some a) b = a
 
 ---- Where each stands
 

@@ -1,6 +1,6 @@
 -- Which files the check accepts, and which number and place a refused one is given: relations beside the passes, none of which they cite.
 use Rattle.std.specs.Prelude.{◌≡◌, List, ◌++◌, ◌↔◌, ℕ, suc, ◌+◌, ◌<◌, length}
-use Rattle.std.proofs.Math.Option.{Option, some}
+use Rattle.std.specs.Prelude.{Option, Some}
 use Rattle.rules.specs.declared.records.Instruction.{Instruction}
 use Rattle.rules.specs.declared.records.Instruction.TheVariants.{Load, Build, Call, Branch, Return, Stop}
 use Rattle.rules.specs.Base.{Refusal, refusal, found, refused}
@@ -22,11 +22,11 @@ use Rattle.rules.specs.Judgements.{TypedBefore, WellTyped, Covered, SizedBefore,
 
 -- of every function
 abbrev pub EachFunction : Program → (ℕ → Function → Type 0) → Type 0
-EachFunction s P = (n : ℕ) (f : Function) → function s n ≡ some f → P n f
+EachFunction s P = (n : ℕ) (f : Function) → function s n ≡ Some f → P n f
 
 -- of those before number n
 abbrev pub Earlier : Program → (ℕ → Function → Type 0) → ℕ → Type 0
-Earlier s P n = (m : ℕ) (g : Function) → m < n → function s m ≡ some g → P m g
+Earlier s P n = (m : ℕ) (g : Function) → m < n → function s m ≡ Some g → P m g
 
 abbrev pub HasTypes : Program → ℕ → Function → Type 0
 HasTypes s n f = (T : ℕ → List ℕ) × WellTyped s f T
@@ -45,8 +45,8 @@ pub record TypesFail (s : Program) (f : Function) (i : ℕ) : Type 0 where
 pub record ArriveWith (s : Program) (n : ℕ) (f : Function) (i : ℕ) (P : Instruction → Shape → Type 0) : Type 0 where
   pub before : (S : ℕ → Option Shape) × SizedBefore s n f S i
   pub ins : Instruction
-  pub stands : slot i f.code ≡ some ins
-  pub here : (S : ℕ → Option Shape) → SizedBefore s n f S i → (x : Shape) × (S i ≡ some x) × P ins x
+  pub stands : slot i f.code ≡ Some ins
+  pub here : (S : ℕ → Option Shape) → SizedBefore s n f S i → (x : Shape) × (S i ≡ Some x) × P ins x
 
 -- "more than 16 variables or alternatives made": a symbol over the top entries, or the parts of a variable
 abbrev pub TooMany : Program → Shape → ℕ → Symbol → Type 0
@@ -55,10 +55,10 @@ TooMany s x args symbol =
 
 abbrev pub Many : Program → Instruction → Shape → Type 0
 Many s (Load a) x = ⊥
-Many s (Build c) x = (k : Constructor) × (constructor s c ≡ some k) × TooMany s x (length k.arguments) (built c)
-Many s (Call g) x = (k : Function) × (function s g ≡ some k) × TooMany s x (length k.parameters) (called g)
+Many s (Build c) x = (k : Constructor) × (constructor s c ≡ Some k) × TooMany s x (length k.arguments) (built c)
+Many s (Call g) x = (k : Function) × (function s g ≡ Some k) × TooMany s x (length k.parameters) (called g)
 Many s (Branch c b) x =
-    (k : Constructor) × (constructor s c ≡ some k) × (rest : List Expression) × (v : ℕ) × (ts : Trees Symbol)
+    (k : Constructor) × (constructor s c ≡ Some k) × (rest : List Expression) × (v : ℕ) × (ts : Trees Symbol)
     × (x.stack ≡ push rest (node (variable v) ts)) × (16 < x.count + length k.arguments)
 Many s Return x = ⊥
 Many s Stop x = ⊥
@@ -108,13 +108,13 @@ pub data Fails (file : List ℕ) : Refusal → Type 0 where
   records : {at : ℕ} → BlocksRight file → RecordsFail (payload file) (refusal 4 at 0) → Fails file (refusal 4 at 0)
   declarations : {s : Program} {p q : ℕ} → UpTo4 file s → DeclarationsFail s (refusal 5 p q) → Fails file (refusal 5 p q)
   bounds : {s : Program} {g k : ℕ} → UpTo5 file s → BoundsFail s (refusal 6 g k) → Fails file (refusal 6 g k)
-  flow : {s : Program} {n i : ℕ} {f : Function} → UpTo6 file s → function s n ≡ some f → Earlier s (λ m g. AllFlow g.code) n
+  flow : {s : Program} {n i : ℕ} {f : Function} → UpTo6 file s → function s n ≡ Some f → Earlier s (λ m g. AllFlow g.code) n
       → FlowFails f.code i → Fails file (refusal 7 n i)
-  types : {s : Program} {n i : ℕ} {f : Function} → UpTo7 file s → function s n ≡ some f → Earlier s (HasTypes s) n → TypesFail s f i
+  types : {s : Program} {n i : ℕ} {f : Function} → UpTo7 file s → function s n ≡ Some f → Earlier s (HasTypes s) n → TypesFail s f i
       → Fails file (refusal 8 n i)
-  many : {s : Program} {n i : ℕ} {f : Function} → UpTo8 file s → function s n ≡ some f → Earlier s (HasShapes s) n → ManyFails s n f i
+  many : {s : Program} {n i : ℕ} {f : Function} → UpTo8 file s → function s n ≡ Some f → Earlier s (HasShapes s) n → ManyFails s n f i
       → Fails file (refusal 9 n i)
-  cover : {s : Program} {n i : ℕ} {f : Function} → UpTo8 file s → function s n ≡ some f → Earlier s (HasShapes s) n → CoverFails s n f i
+  cover : {s : Program} {n i : ℕ} {f : Function} → UpTo8 file s → function s n ≡ Some f → Earlier s (HasShapes s) n → CoverFails s n f i
       → Fails file (refusal 10 n i)
 
 -- the check accepts a file just where it obeys every rule, and refuses it with just the number and the places at which a rule fails

@@ -2,7 +2,7 @@
 -- What takes a cell, and how many cells can be used, is a parameter: each definition that asks for it is given under its name with "By",
 -- for any rule, and behind it under its plain name, by today's rule.
 use Rattle.std.specs.Prelude.{if◌then◌else◌, List, [], ◌∷◌, ℕ, zero, suc, ◌+◌, ◌/◌, min, length, leb}
-use Rattle.std.proofs.Math.Option.{Option, none, some}
+use Rattle.std.specs.Prelude.{Option, None, Some}
 use Rattle.rules.specs.declared.records.Instruction.{Instruction}
 use Rattle.rules.specs.declared.records.Instruction.TheVariants.{Load, Build, Call, Branch, Return, Stop}
 use Rattle.rules.specs.Base.{Refusal, refusal, Tried, found, refused, ◌>>=◌, Check, require, or_refuse}
@@ -55,13 +55,13 @@ usable = usable_by with_arguments
 
 -- what an instruction takes
 unfoldable pub cells_taken_by : CellRule → Program → Option Instruction → ℕ
-cells_taken_by rule s none = 0
-cells_taken_by rule s (some (Load a)) = 0
-cells_taken_by rule s (some (Build c)) = rule.taken (arity s c)
-cells_taken_by rule s (some (Call g)) = 0
-cells_taken_by rule s (some (Branch c b)) = 0
-cells_taken_by rule s (some Return) = 0
-cells_taken_by rule s (some Stop) = 0
+cells_taken_by rule s None = 0
+cells_taken_by rule s (Some (Load a)) = 0
+cells_taken_by rule s (Some (Build c)) = rule.taken (arity s c)
+cells_taken_by rule s (Some (Call g)) = 0
+cells_taken_by rule s (Some (Branch c b)) = 0
+cells_taken_by rule s (Some Return) = 0
+cells_taken_by rule s (Some Stop) = 0
 
 abbrev pub cells_taken : Program → Option Instruction → ℕ
 cells_taken = cells_taken_by with_arguments
@@ -115,12 +115,12 @@ refusal_at n [] = refusal n 0 0
 refusal_at n (fr ∷ others) = refusal n fr.function fr.instruction
 
 abbrev pub finished_with : Option Value → Option (Ending (List ℕ))
-finished_with none = none
-finished_with (some v) = some (finished (written v))
+finished_with None = None
+finished_with (Some v) = Some (finished (written v))
 
 -- how a state ends the run, if it does
 unfoldable pub end_of : Program → State → Option (Ending (List ℕ))
-end_of s [] = some aborted
+end_of s [] = Some aborted
 end_of s (fr ∷ others) = finished_with (result_of s (fr ∷ others))
 
 -- a state with the cells in use
@@ -143,13 +143,13 @@ step_within = step_within_by with_arguments
 unfoldable pub continued_by : CellRule → Program → Tables → ℕ → ℕ → State → ℕ → Outcome
 continued_by rule s m zero steps st cells =
     elim (end_of s st) [
-      | some e ↦ answer e steps
-      | none ↦ answer (refused_with (refusal_at 14 st)) steps
+      | Some e ↦ answer e steps
+      | None ↦ answer (refused_with (refusal_at 14 st)) steps
     ]
 continued_by rule s m (suc left) steps st cells =
     elim (end_of s st) [
-      | some e ↦ answer e steps
-      | none ↦ elim (step_within_by rule s m st cells) [
+      | Some e ↦ answer e steps
+      | None ↦ elim (step_within_by rule s m st cells) [
         | found p ↦ continued_by rule s m left (suc steps) p.0 p.1
         | refused r ↦ answer (refused_with r) steps
       ]

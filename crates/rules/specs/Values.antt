@@ -1,6 +1,6 @@
 -- Values: their sizes and types, and a size bound at given sizes. Document 01, "Weighted size" and "The machine".
 use Rattle.std.specs.Prelude.{◌≡◌, List, [], ◌∷◌, map, ℕ, ◌+◌, ◌*◌, max}
-use Rattle.std.proofs.Math.Option.{Option, none, some}
+use Rattle.std.specs.Prelude.{Option, None, Some}
 use Rattle.rules.specs.declared.records.Alternative.{Alternative}
 use Rattle.rules.specs.Lists.{All2}
 use Rattle.rules.specs.Program.{Constructor, Program, constructor}
@@ -10,8 +10,8 @@ use Rattle.rules.specs.Machine.{Value}
 -- "0 for arity 0, else weight plus the arguments' weighted sizes": a constructor over these arguments, whose sizes add up to n
 abbrev pub weighted : Option Constructor → Trees ℕ → ℕ → ℕ
 weighted k nil n = 0
-weighted none (cons v vs) n = n
-weighted (some k) (cons v vs) n = k.weight + n
+weighted None (cons v vs) n = n
+weighted (Some k) (cons v vs) n = k.weight + n
 
 module _ (s : Program) where
   -- document 01's weighted size
@@ -29,7 +29,7 @@ module _ (s : Program) where
   -- "A value is of a type if its constructor's result is that type and its arguments are, one for one, of the types declared there"
   abbrev mutual
     pub Has : Value → ℕ → Type 0
-    Has (node c vs) t = (k : Constructor) × (constructor s c ≡ some k) × (k.result ≡ t) × AllHave vs k.arguments
+    Has (node c vs) t = (k : Constructor) × (constructor s c ≡ Some k) × (k.result ≡ t) × AllHave vs k.arguments
 
     pub AllHave : Trees ℕ → List ℕ → Type 0
     AllHave nil [] = Unit {0}

@@ -1,7 +1,7 @@
 -- The states along the arrows of a function's flow graph, from its roots on: each instruction is judged in the state that arrives there.
 -- The passes for 7, 8 and for 10 and 9 judge so. Document 01, "Flow" and the order of "Numbers".
 use Rattle.std.specs.Prelude.{if◌then◌else◌, List, [], ◌∷◌, ◌++◌, ℕ, zero, suc, ◌+◌, ◌-◌, length, take, replicate, get_or, eqb}
-use Rattle.std.proofs.Math.Option.{Option, none, some}
+use Rattle.std.specs.Prelude.{Option, None, Some}
 use Rattle.rules.specs.declared.records.Instruction.{Instruction}
 use Rattle.rules.specs.declared.records.Instruction.TheVariants.{Load, Build, Call, Branch, Return, Stop}
 use Rattle.rules.specs.Base.{Tried, found, refused, Check, passed, only, each}
@@ -29,8 +29,8 @@ sources j i [] = []
 sources j i (ins ∷ code) = replicate (hits j (targets i ins)) i ++ sources j (suc i) code
 
 abbrev pub first : {A : Type 0} → List A → Option A
-first [] = none
-first (a ∷ more) = some a
+first [] = None
+first (a ∷ more) = Some a
 
 module _ (code : List Instruction) where
   -- "arrivals from earlier instructions"
@@ -57,33 +57,33 @@ module _ {S : Type 0} where
   arriving j (a ∷ more) = if eqb a.0 j then a.1 ∷ arriving j more else arriving j more
 
   abbrev pub brought_to : ℕ → Tried (List (Arrow S)) → Option S
-  brought_to j (refused r) = none
+  brought_to j (refused r) = None
   brought_to j (found arrows) = first (arriving j arrows)
 
   -- a root at instruction k, with its state
   abbrev pub root_at : ℕ → S → ℕ → Option S
-  root_at k x j = if eqb k j then some x else none
+  root_at k x j = if eqb k j then Some x else None
 
   abbrev pub or_root : Option S → Option S → Option S
-  or_root (some x) o = some x
-  or_root none o = o
+  or_root (Some x) o = Some x
+  or_root None o = o
 
   -- of the states of instructions 1 to n: that of instruction i
   abbrev pub state_of : List (Option S) → ℕ → Option S
-  state_of states zero = none
-  state_of states (suc d) = get_or states d none
+  state_of states zero = None
+  state_of states (suc d) = get_or states d None
 
 -- a rule says of an instruction's number, itself and the state there which arrows leave it, or refuses. Roots have a state of their own
 module _ {S : Type 0} (rule : ℕ → Instruction → S → Tried (List (Arrow S))) (roots : ℕ → Option S) (code : List Instruction) where
   -- what instruction i hands on to j; none behind one that has no state or is refused
   abbrev pub handed : ℕ → ℕ → Option Instruction → Option S → Option S
-  handed i j none o = none
-  handed i j (some ins) none = none
-  handed i j (some ins) (some x) = brought_to j (rule i ins x)
+  handed i j None o = None
+  handed i j (Some ins) None = None
+  handed i j (Some ins) (Some x) = brought_to j (rule i ins x)
 
   abbrev pub from_origin : (ℕ → Option S) → ℕ → Option ℕ → Option S
-  from_origin held j none = none
-  from_origin held j (some i) = handed i j (slot i code) (held i)
+  from_origin held j None = None
+  from_origin held j (Some i) = handed i j (slot i code) (held i)
 
   -- the state at j: a root's own, else what its origin hands on, where these states are held before it
   abbrev pub state_from : (ℕ → Option S) → ℕ → Option S
@@ -108,8 +108,8 @@ module _ {S : Type 0} (rule : ℕ → Instruction → S → Tried (List (Arrow S
   along test = test_each test (states (length code))
 
   abbrev pub judge : ℕ → Instruction → Option S → Check
-  judge i ins none = passed
-  judge i ins (some x) = only (rule i ins x)
+  judge i ins None = passed
+  judge i ins (Some x) = only (rule i ins x)
 
   -- the refusal at the least instruction that has a state and is refused; those whose path passes a refused one have none
   unfoldable pub judged : Check

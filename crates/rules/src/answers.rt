@@ -1,5 +1,5 @@
-// The answers of check, run, pack, unpack, lines and verify. The definition `refusal_of` gives each reason's number and places, those of
-// documents 01 and 02.
+// Why something is refused, and what check and run answer. Where there is nothing more to say than an answer or the reason of a refusal,
+// functions return a Result. The definition `refusal_of` gives each reason's number and places, those of documents 01 and 02.
 
 // An instruction of a function.
 #[derive(Clone, Copy)]
@@ -46,27 +46,6 @@ pub struct Counts {
     pub types: u8,
     pub constructors: u8,
     pub functions: u8,
-}
-
-// The answer of check.
-#[derive(Clone, Copy)]
-pub enum Verdict {
-    Accepted(Counts),
-    Refused(Reason),
-}
-
-// How many bytes: those that pack, unpack or lines wrote to the output's front, or those of a verified payload.
-#[derive(Clone, Copy)]
-pub enum Length {
-    Bytes(usize),
-    Refused(Reason),
-}
-
-// A rule, or all rules of one pass: they hold, or why they do not.
-#[derive(Clone, Copy)]
-pub enum Checked {
-    Right,
-    Refused(Reason),
 }
 
 // How a run ends: with a result of so many bytes, by the program's own stop, or refused.

@@ -1,7 +1,7 @@
 -- What 7 and 8 give at each instruction that is reached: its operands are there, and what follows it is reached.
 use mathlib.Core.Path.{◌≡◌, refl, ap, ◌∙◌}
 use mathlib.Core.List.{List, [], ◌∷◌, ◌++◌}
-use mathlib.Core.Option.{some}
+use Rattle.std.specs.Prelude.{Some}
 use mathlib.Core.Bool.{Bool, true, false}
 use Prim.Native.Nat.{ℕ, suc, ◌+◌, ◌-◌, ◌≤◌}
 use native.Mathlib.Omega.{arith}
@@ -25,7 +25,7 @@ use Rattle.rules.proofs.Calls.{past_leads}
 use Rattle.sizing.specs.Chart.{ReachedAt}
 
 -- a split: how high it is, and what is left below
-split_low : {A : Type 0} (n : ℕ) (xs : List A) {p : List A × List A} → split n xs ≡ some p → (n ≤ length xs)
+split_low : {A : Type 0} (n : ℕ) (xs : List A) {p : List A × List A} → split n xs ≡ Some p → (n ≤ length xs)
     × (length p.0 ≡ length xs - n)
 split_low n xs e =
     let r = split_parts n xs e in
@@ -34,7 +34,7 @@ split_low n xs e =
 -- a branch: the else target lies further on than the next instruction, and no build or call has been passed on the way to either
 pub record Branches (s : Program) (g : ℕ) (f : Function) (i h c b : ℕ) : Type 0 where
   pub kind : Constructor
-  pub known : constructor s c ≡ some kind
+  pub known : constructor s c ≡ Some kind
   pub some_stack : 1 ≤ h
   pub ahead : i + 2 ≤ b
   pub next : ReachedAt s g f (suc i) (h - 1 + length kind.arguments) false
@@ -56,7 +56,7 @@ module _ (s : Program) (g : ℕ) (f : Function) (flow : FlowsRightly g f) (types
   Types i ins ts = (M : List (Arrow (List ℕ))) × (type_rule s g f i ins ts ≡ found M) × All (LeadsOn (types_at s g f)) M
 
   -- the type rule holds of an instruction that is there, and the paths are handed on
-  at_as : (i h : ℕ) (p : Bool) (a : ReachedAt s g f i h p) (ins : Instruction) → slot i f.code ≡ some ins → Types i ins a.stack
+  at_as : (i h : ℕ) (p : Bool) (a : ReachedAt s g f i h p) (ins : Instruction) → slot i f.code ≡ Some ins → Types i ins a.stack
   unfolding types_of
   at_as i h p a ins c =
       let r = judged_found (type_rule s g f) (root_at 1 f.parameters) f.code types i ins c a.stack a.types in (
@@ -66,7 +66,7 @@ module _ (s : Program) (g : ℕ) (f : Function) (flow : FlowsRightly g f) (types
             (λ i ins x M e j. le_of_eq (type_all s g f i ins x M e j)) i ins c a.stack a.types r.0 r.1,
       )
 
-  goes_on_lem : (i h : ℕ) (p : Bool) (a : ReachedAt s g f i h p) (ins : Instruction) → slot i f.code ≡ some ins → {L : List (Arrow Bool)}
+  goes_on_lem : (i h : ℕ) (p : Bool) (a : ReachedAt s g f i h p) (ins : Instruction) → slot i f.code ≡ Some ins → {L : List (Arrow Bool)}
       → passing i ins p ≡ found L → All (LeadsOn (past_at f.code)) L
   goes_on_lem i h p a ins c e = past_leads s g f flow i ins c p a.flow e
 
@@ -75,7 +75,7 @@ module _ (s : Program) (g : ℕ) (f : Function) (flow : FlowsRightly g f) (types
       let c = state_stands (type_rule s g f) (root_at 1 f.parameters) f.code i a.types in
       slot_low i f.code c.4
 
-  pub at_load : (i h : ℕ) (p : Bool) (a : ℕ) → ReachedAt s g f i h p → slot i f.code ≡ some (Load a) → (1 ≤ a) × (a ≤ h)
+  pub at_load : (i h : ℕ) (p : Bool) (a : ℕ) → ReachedAt s g f i h p → slot i f.code ≡ Some (Load a) → (1 ≤ a) × (a ≤ h)
       × ReachedAt s g f (suc i) (h + 1) p
   unfolding passing
   at_load i h p a y e =
@@ -93,8 +93,8 @@ module _ (s : Program) (g : ℕ) (f : Function) (flow : FlowsRightly g f) (types
         },
       )
 
-  pub at_build : (i h : ℕ) (p : Bool) (c : ℕ) → ReachedAt s g f i h p → slot i f.code ≡ some (Build c)
-      → (k : Constructor) × (constructor s c ≡ some k) × (length k.arguments ≤ h)
+  pub at_build : (i h : ℕ) (p : Bool) (c : ℕ) → ReachedAt s g f i h p → slot i f.code ≡ Some (Build c)
+      → (k : Constructor) × (constructor s c ≡ Some k) × (length k.arguments ≤ h)
       × ReachedAt s g f (suc i) (h - length k.arguments + 1) true
   unfolding passing
   at_build i h p c y e =
@@ -113,8 +113,8 @@ module _ (s : Program) (g : ℕ) (f : Function) (flow : FlowsRightly g f) (types
         },
       )
 
-  pub at_call : (i h : ℕ) (p : Bool) (c : ℕ) → ReachedAt s g f i h p → slot i f.code ≡ some (Call c)
-      → (k : Function) × (function s c ≡ some k) × (arity k ≤ h) × ReachedAt s g f (suc i) (h - arity k + 1) true
+  pub at_call : (i h : ℕ) (p : Bool) (c : ℕ) → ReachedAt s g f i h p → slot i f.code ≡ Some (Call c)
+      → (k : Function) × (function s c ≡ Some k) × (arity k ≤ h) × ReachedAt s g f (suc i) (h - arity k + 1) true
   unfolding passing
   at_call i h p c y e =
       let r = at_as i h p y (Call c) e in
@@ -132,7 +132,7 @@ module _ (s : Program) (g : ℕ) (f : Function) (flow : FlowsRightly g f) (types
         },
       )
 
-  pub at_branch : (i h : ℕ) (p : Bool) (c b : ℕ) → ReachedAt s g f i h p → slot i f.code ≡ some (Branch c b) → (p ≡ false)
+  pub at_branch : (i h : ℕ) (p : Bool) (c b : ℕ) → ReachedAt s g f i h p → slot i f.code ≡ Some (Branch c b) → (p ≡ false)
       × Branches s g f i h c b
   unfolding passing
   at_branch i h p c b y e =
@@ -154,8 +154,8 @@ module _ (s : Program) (g : ℕ) (f : Function) (flow : FlowsRightly g f) (types
             stack = t.2 ++ t.0.arguments;
             types = types.0;
             high = length-append t.2 t.0.arguments ∙ omega (arith, d.1);
-            flow = flows.0 ∙ ap some l.2;
+            flow = flows.0 ∙ ap Some l.2;
           };
-          other = record { stack = y.stack; types = types.1; high = y.high; flow = flows.1 ∙ ap some l.2 };
+          other = record { stack = y.stack; types = types.1; high = y.high; flow = flows.1 ∙ ap Some l.2 };
         },
       )

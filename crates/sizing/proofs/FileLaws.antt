@@ -1,7 +1,7 @@
 -- What a file whose records are right and which 6, 7 and 8 pass gives: its functions, constructors and bounds as the code reads them.
 use mathlib.Core.Path.{◌≡◌, refl, sym, ap, ◌∙◌}
 use mathlib.Core.List.{List, [], ◌∷◌}
-use mathlib.Core.Option.{some}
+use Rattle.std.specs.Prelude.{Some}
 use mathlib.Core.Bool.{true}
 use Prim.Native.Nat.{ℕ, zero, suc, ◌+◌, ◌-◌, ◌≤◌, ◌<◌, zero-le}
 use native.Mathlib.Omega.{arith}
@@ -39,14 +39,14 @@ use Rattle.rules.proofs.Accepted.{FlowsRightly, flows_rightly}
 module _ {file heads : List ℕ} (w : Walking file heads) where
   ---- Constructors
 
-  pub constructor_named : (c : ℕ) (k : Constructor) → constructor (program_in file) c ≡ some k → (c < byte_at (payload file) 2)
+  pub constructor_named : (c : ℕ) (k : Constructor) → constructor (program_in file) c ≡ Some k → (c < byte_at (payload file) 2)
       × (k ≡ constructor_of (constructor_at (payload file) (constructor_offset c)))
   unfolding program_of
   constructor_named c k e =
       numbered_is (λ c. constructor_of (constructor_at (payload file) (constructor_offset c))) (byte_at (payload file) 2) c e
 
   -- what is read of it
-  pub constructor_read : (c : ℕ) (k : Constructor) → constructor (program_in file) c ≡ some k
+  pub constructor_read : (c : ℕ) (k : Constructor) → constructor (program_in file) c ≡ Some k
       → (length k.arguments ≡ byte_at (payload file) (constructor_offset c + 1)) × (length k.arguments ≤ 4)
       × (k.weight ≡ byte_at (payload file) (constructor_offset c + 6))
   unfolding constructor_of
@@ -57,7 +57,7 @@ module _ {file heads : List ℕ} (w : Walking file heads) where
       ap (λ (y : Constructor). length y.arguments) r.1 ∙ arguments_length (payload file) (constructor_offset c) four in
       (long, omega arith, ap (λ (y : Constructor). y.weight) r.1)
 
-  pub light : (c : ℕ) (k : Constructor) → constructor (program_in file) c ≡ some k → k.weight ≤ 255
+  pub light : (c : ℕ) (k : Constructor) → constructor (program_in file) c ≡ Some k → k.weight ≤ 255
   light c k e = omega (arith, (constructor_read c k e).2, byte_small w.records.verified w.records.bytes (constructor_offset c + 6))
 
   pub weights : Weights file
@@ -69,13 +69,13 @@ module _ {file heads : List ℕ} (w : Walking file heads) where
 
   ---- Functions
 
-  pub function_named : (g : ℕ) (f : Function) → function (program_in file) g ≡ some f → (g < byte_at (payload file) 3)
+  pub function_named : (g : ℕ) (f : Function) → function (program_in file) g ≡ Some f → (g < byte_at (payload file) 3)
       × (f ≡ function_in file g)
   unfolding program_of
   function_named g f e = numbered_is (λ g. function_in file g) (byte_at (payload file) 3) g e
 
   module _ (g : ℕ) (h : g < byte_at (payload file) 3) where
-    function_is : function (program_in file) g ≡ some (function_in file g)
+    function_is : function (program_in file) g ≡ Some (function_in file g)
     unfolding program_of
     function_is = numbered_there (λ g. function_in file g) (byte_at (payload file) 3) g h
 
@@ -102,7 +102,7 @@ module _ {file heads : List ℕ} (w : Walking file heads) where
     -- instruction i, from 1
     pub code_at : (i : ℕ) → 1 ≤ i → i ≤ length (function_in file g).code
         → (slot i (function_in file g).code
-        ≡ some (instruction_of (instruction_at (payload file)
+        ≡ Some (instruction_of (instruction_at (payload file)
         (instruction_offset (code_offset (payload file) (head_offset (payload file) g)) (i - 1)))))
         × (instruction_offset (code_offset (payload file) (head_offset (payload file) g)) (i - 1) + 4 ≤ length (payload file))
     unfolding function_of
@@ -176,7 +176,7 @@ module _ {file heads : List ℕ} (w : Walking file heads) where
       bound_right =
           let c = is.count in let lo = here.some_alternatives in let hi = here.few_alternatives in
           record {
-            some = omega arith;
+            Some = omega arith;
             few = omega arith;
             there = λ i l _. rw is.head (here.alternative i (counted_in i l)).0;
             each = λ i l. rw (row_is i) (record { four = refl; small = small_at i l; constant = constant_small i });

@@ -3,7 +3,7 @@ use Rattle.std.specs.Prelude.{if◌then◌else◌}
 use mathlib.Core.Path.{◌≡◌, refl, sym, ap, ◌∙◌}
 use mathlib.Core.List.{List, [], ◌∷◌, ◌++◌, map, map-append}
 use mathlib.Core.Bool.{Bool, true, false}
-use mathlib.Core.Option.{Option, none, some}
+use Rattle.std.specs.Prelude.{Option, None, Some}
 use Prim.Native.Nat.{ℕ, zero, suc, ◌<◌}
 use lib.ListN.{length, replicate}
 use lib.Dec.{eqb}
@@ -63,14 +63,14 @@ module _ (k : ℕ) (m : Alternative) (w : Wide m) where
   put_built : (c : Option Constructor) (forms : List Form) → All AllWide forms
       → map (put k m) (built_form c forms) ≡ built_form c (map (map (put k m)) forms)
   unfolding built_form
-  put_built none forms p = refl
-  put_built (some c) forms p = put_substituted (replicate (length c.arguments) 1) c.weight forms p
+  put_built None forms p = refl
+  put_built (Some c) forms p = put_substituted (replicate (length c.arguments) 1) c.weight forms p
 
   put_called : (g : Option Function) (forms : List Form) → All AllWide forms
       → map (put k m) (called_form g forms) ≡ called_form g (map (map (put k m)) forms)
   unfolding called_form
-  put_called none forms p = refl
-  put_called (some g) forms p = put_bound g.bound forms p
+  put_called None forms p = refl
+  put_called (Some g) forms p = put_bound g.bound forms p
 
   module _ (s : Program) (small : k < 16) (x : Expression) (is : form_of s x ≡ m ∷ []) where
     replaced_variable : (j : ℕ) (ts : Trees Symbol) (t : Bool) → eqb j k ≡ t

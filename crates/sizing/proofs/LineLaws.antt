@@ -2,7 +2,7 @@
 use mathlib.Core.Path.{◌≡◌, refl, sym, ap, ◌∙◌}
 use mathlib.Core.List.{List, [], ◌∷◌, ◌++◌, map, map-append}
 use mathlib.Core.Bool.{Bool, true, false, ◌||◌}
-use mathlib.Core.Option.{some}
+use Rattle.std.specs.Prelude.{Some}
 use Prim.Native.Nat.{ℕ, suc, ◌+◌, ◌-◌, ◌≤◌, ◌<◌}
 use native.Mathlib.Omega.{arith}
 use native.Mathlib.Nat.{le_trans}
@@ -90,7 +90,7 @@ module _ {s : Program} (n : ℕ) {f : Function} {sh : Shape} {own : Form} {stack
       let h = r.held i l in
       record {
         right = h.right;
-        some = h.some;
+        Some = h.some;
         below = covered_below 15 131072 (form_in own) (form_in (get_or stack i no_form)) r.most h.right.wide h.covered;
       }
 
@@ -153,7 +153,7 @@ module _ {s : Program} (n : ℕ) {f : Function} {sh : Shape} {own : Form} {stack
       ∙ ap (map form_in) (take-take (height - m) height stack (omega arith))
 
   split_is : (m : ℕ) → m ≤ height → split m sh.stack
-      ≡ some (take (length sh.stack - m) sh.stack, drop (length sh.stack - m) sh.stack)
+      ≡ Some (take (length sh.stack - m) sh.stack, drop (length sh.stack - m) sh.stack)
   unfolding split
   split_is m h = let z = stack_length in rw (le-leb m (length sh.stack) (omega arith))
 
@@ -184,7 +184,7 @@ module _ {s : Program} (n : ℕ) {f : Function} {sh : Shape} {own : Form} {stack
     enter_line z l c =
         let q = mk.right (omega (arith, z)) in
         pushed (take (length sh.stack - m) sh.stack) (entered m symbol) (height - m) x (is ∙ sym q.1) (omega arith) l (rest_are m)
-        (record { right = q.0; some = omega (arith, z); covered = c })
+        (record { right = q.0; Some = omega (arith, z); covered = c })
 
     pub enter_refused : (x.count ≡ 0 → ⊥) → covers (form_in own) (form_in x) ≡ false → (j : ℕ) (ins : Instruction)
         → shape_rule s n f j ins (entered_shape m symbol) ≡ refused (refusal 10 n j)
@@ -193,7 +193,7 @@ module _ {s : Program} (n : ℕ) {f : Function} {sh : Shape} {own : Form} {stack
         uncovered (take (length sh.stack - m) sh.stack) (entered m symbol) (height - m) x (is ∙ sym q.1) c j ins
 
   -- the form of a build, and of a call
-  pub build_form : (c : ℕ) (k : Constructor) → constructor s c ≡ some k → length k.arguments ≤ height
+  pub build_form : (c : ℕ) (k : Constructor) → constructor s c ≡ Some k → length k.arguments ≤ height
       → form_of s (entered (length k.arguments) (built c))
       ≡ substituted (replicate (length k.arguments) 1) k.weight
       (map form_in (take (length k.arguments) (drop (height - length k.arguments) stack)))
@@ -202,7 +202,7 @@ module _ {s : Program} (n : ℕ) {f : Function} {sh : Shape} {own : Form} {stack
       rw e (ap (substituted (replicate (length k.arguments) 1) k.weight)
       (forms_list s (drop (length sh.stack - length k.arguments) sh.stack) ∙ arguments_are (length k.arguments) h))
 
-  pub call_form : (g : ℕ) (k : Function) → function s g ≡ some k → arity k ≤ height
+  pub call_form : (g : ℕ) (k : Function) → function s g ≡ Some k → arity k ≤ height
       → form_of s (entered (arity k) (called g)) ≡ into_bound k.bound (map form_in (take (arity k) (drop (height - arity k) stack)))
   unfolding form_of forms_of called_form
   call_form g k e h =

@@ -2,12 +2,12 @@
 use mathlib.Core.Path.{◌≡◌, refl, ap, ◌∙◌}
 use mathlib.Core.List.{List, [], ◌∷◌, ◌++◌, map}
 use mathlib.Core.Bool.{Bool, true, false, ◌&&◌}
-use mathlib.Core.Option.{some}
+use Rattle.std.specs.Prelude.{Some, slice_get}
 use Prim.Native.Nat.{ℕ, zero, suc, ◌+◌, ◌≤◌, ◌<◌}
 use native.Mathlib.Omega.{arith}
 use native.Mathlib.Numerals.{add-one}
 use native.Mathlib.Nat.{add-zero, zero-add, add-suc, suc-add}
-use lib.ListN.{length, get_or, set, take, drop, get_elem?}
+use lib.ListN.{length, get_or, set, take, drop}
 use lib.Seq.{take-nil, take-suc-set}
 use Rattle.rules.specs.Base.{all, numbered}
 
@@ -30,7 +30,7 @@ all_last_fails p (y ∷ xs) x e = go (p y) (all_last_fails p xs x e)
 
 ---- Elements and parts
 
-pub element_at : {A : Type 0} (d : A) (xs : List A) (k : ℕ) → k < length xs → get_elem? xs k ≡ some (get_or xs k d)
+pub element_at : {A : Type 0} (d : A) (xs : List A) (k : ℕ) → k < length xs → slice_get xs k ≡ Some (get_or xs k d)
 element_at d [] k h = absurd (omega arith)
 element_at d (x ∷ xs) zero h = refl
 element_at d (x ∷ xs) (suc k) h = element_at d xs k (omega arith)

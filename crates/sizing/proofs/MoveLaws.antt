@@ -2,7 +2,7 @@
 use Rattle.std.specs.Prelude.{if◌then◌else◌}
 use mathlib.Core.Path.{◌≡◌, refl, sym, ap, ◌∙◌}
 use mathlib.Core.List.{List, [], ◌∷◌, ◌++◌}
-use mathlib.Core.Option.{some}
+use Rattle.std.specs.Prelude.{Some}
 use mathlib.Core.Bool.{Bool, true, false}
 use Prim.Native.Nat.{ℕ, zero, suc, ◌+◌, ◌-◌, ◌≤◌, ◌<◌}
 use native.Mathlib.Omega.{arith}
@@ -97,7 +97,7 @@ said_skipped {file} {heads} {g} {r} {i} {st} a {m} v s =
 
 module _ {file heads : List ℕ} {g i : ℕ} {st : Saved} {ins : Instruction} (a : MoveAsks file heads g i st ins) where
   arrives : (arrows : List (Arrow Shape)) → first (arriving i arrows) ≡ standing (function_in file g) st
-      → first (arriving i arrows) ≡ some (shape_in (function_in file g) st)
+      → first (arriving i arrows) ≡ Some (shape_in (function_in file g) st)
   arrives arrows q = q ∙ rw a.visited
 
   rule : shape_rule (program_in file) g (function_in file g) i ins (shape_in (function_in file g) st)
@@ -220,7 +220,7 @@ module _ {file heads : List ℕ} {g i : ℕ} {st : Saved} {c b : ℕ} (a : MoveA
         let o = y.some_stack in let u = r.list in let v = r.few in
         let taken : length (splits_in st) ≡ st.taken = length-take-le st.taken st.list (omega arith) in
         record {
-          some = o;
+          Some = o;
           high = r.high;
           fits = omega arith;
           few = r.few;

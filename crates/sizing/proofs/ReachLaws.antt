@@ -1,7 +1,7 @@
 -- At an instruction of a file's function that is reached: it is read, what it names is there, and what 7 and 8 say of it.
 use mathlib.Core.Path.{◌≡◌, sym, ap, ◌∙◌}
 use mathlib.Core.List.{List}
-use mathlib.Core.Option.{some}
+use Rattle.std.specs.Prelude.{Some}
 use mathlib.Core.Bool.{Bool, true, false}
 use Prim.Native.Nat.{ℕ, suc, ◌+◌, ◌-◌, ◌≤◌, ◌<◌}
 use native.Mathlib.Omega.{arith}
@@ -45,43 +45,43 @@ module _ {file heads : List ℕ} (w : Walking file heads) {g : ℕ} (t : g < byt
 
     pub at_instruction : (base : ℕ) → base ≡ code_offset (payload file) (head_offset (payload file) g) → {x : ℕ}
         → x ≡ instruction_offset base (i - 1)
-        → (ins : Instruction) → ins ≡ instruction_of (instruction_at (payload file) x) → slot i (function_in file g).code ≡ some ins
+        → (ins : Instruction) → ins ≡ instruction_of (instruction_at (payload file) x) → slot i (function_in file g).code ≡ Some ins
     at_instruction base e q ins is =
         (code_at w g t i at_there.0 at_there.1).0
-        ∙ ap some (sym (is ∙ ap (λ (x : ℕ). instruction_of (instruction_at (payload file) x))
+        ∙ ap Some (sym (is ∙ ap (λ (x : ℕ). instruction_of (instruction_at (payload file) x))
         (q ∙ ap (λ (b : ℕ). instruction_offset b (i - 1)) e)))
 
-    pub at_some : (ins : Instruction) × (slot i (function_in file g).code ≡ some ins)
+    pub at_some : (ins : Instruction) × (slot i (function_in file g).code ≡ Some ins)
     at_some = (_, (code_at w g t i at_there.0 at_there.1).0)
 
-    pub at_load : (a : ℕ) → slot i (function_in file g).code ≡ some (Load a) → (1 ≤ a) × (a ≤ h)
+    pub at_load : (a : ℕ) → slot i (function_in file g).code ≡ Some (Load a) → (1 ≤ a) × (a ≤ h)
         × ReachedAt (program_in file) g (function_in file g) (suc i) (h + 1) p
     at_load a e =
         chart.at_load (program_in file) g (function_in file g) (flow_right_lem w g t) (types_right_lem w g t) (few_parameters w g t) i h p
         a y e
 
-    pub at_build : (c : ℕ) → slot i (function_in file g).code ≡ some (Build c)
-        → (k : Constructor) × (constructor (program_in file) c ≡ some k) × (length k.arguments ≤ h)
+    pub at_build : (c : ℕ) → slot i (function_in file g).code ≡ Some (Build c)
+        → (k : Constructor) × (constructor (program_in file) c ≡ Some k) × (length k.arguments ≤ h)
         × ReachedAt (program_in file) g (function_in file g) (suc i) (h - length k.arguments + 1) true
     at_build c e =
         chart.at_build (program_in file) g (function_in file g) (flow_right_lem w g t) (types_right_lem w g t) (few_parameters w g t) i h
         p c y e
 
-    pub at_call : (c : ℕ) → slot i (function_in file g).code ≡ some (Call c)
-        → (k : Function) × (function (program_in file) c ≡ some k) × (arity k ≤ h)
+    pub at_call : (c : ℕ) → slot i (function_in file g).code ≡ Some (Call c)
+        → (k : Function) × (function (program_in file) c ≡ Some k) × (arity k ≤ h)
         × ReachedAt (program_in file) g (function_in file g) (suc i) (h - arity k + 1) true
     at_call c e =
         chart.at_call (program_in file) g (function_in file g) (flow_right_lem w g t) (types_right_lem w g t) (few_parameters w g t) i h p
         c y e
 
-    pub at_branch : (c b : ℕ) → slot i (function_in file g).code ≡ some (Branch c b)
+    pub at_branch : (c b : ℕ) → slot i (function_in file g).code ≡ Some (Branch c b)
         → (p ≡ false) × Branches (program_in file) g (function_in file g) i h c b
     at_branch c b e =
         chart.at_branch (program_in file) g (function_in file g) (flow_right_lem w g t) (types_right_lem w g t) (few_parameters w g t) i h
         p c b y e
 
     -- what an instruction names is there
-    pub operand_there : (ins : Instruction) → slot i (function_in file g).code ≡ some ins → OperandThere (payload file) ins
+    pub operand_there : (ins : Instruction) → slot i (function_in file g).code ≡ Some ins → OperandThere (payload file) ins
     operand_there (Load a) e = tt
     operand_there (Build c) e = let k = at_build c e in (constructor_named w c k.0 k.1).0
     operand_there (Call c) e = let k = at_call c e in (function_named w c k.0 k.1).0

@@ -3,11 +3,11 @@ use Rattle.std.specs.Prelude.{if◌then◌else◌}
 use mathlib.Core.Path.{◌≡◌, refl, sym, ap, ◌∙◌}
 use mathlib.Core.List.{List, [], ◌∷◌, ◌++◌, map, map-append}
 use mathlib.Core.Bool.{true, false}
-use mathlib.Core.Option.{some}
+use Rattle.std.specs.Prelude.{Some, slice_get}
 use Prim.Native.Nat.{ℕ, zero, suc, ◌+◌, ◌-◌, ◌≤◌, ◌<◌}
 use native.Mathlib.Omega.{arith}
 use native.Mathlib.Nat.{le_refl, not-suc-le-zero, le_of_suc-le-suc}
-use lib.ListN.{length, get_or, get_elem?, length-append}
+use lib.ListN.{length, get_or, length-append}
 use lib.Seq.{take_at, drop_at}
 use lib.Dec.{eqb}
 use borrow.Author.Tests.{le-leb, lt-leb, eq-eqb, ne_eqb}
@@ -29,14 +29,14 @@ use Rattle.sizing.specs.Right.{Path, own_at, AllUnder}
 
 ---- Lists
 
-split_seam : {A : Type 0} (xs ys : List A) (n : ℕ) → length ys ≡ n → split n (xs ++ ys) ≡ some (xs, ys)
+split_seam : {A : Type 0} (xs ys : List A) (n : ℕ) → length ys ≡ n → split n (xs ++ ys) ≡ Some (xs, ys)
 unfolding split
 split_seam xs ys n e =
     let l = length-append xs ys in
     let a : length xs ≡ length (xs ++ ys) - n = omega arith in
     rw (le-leb n (length (xs ++ ys)) (omega arith), take_at xs ys (length (xs ++ ys) - n) a, drop_at xs ys (length (xs ++ ys) - n) a)
 
-element_map : {A B : Type 0} (g : A → B) (d : A) (xs : List A) (k : ℕ) → k < length xs → get_elem? (map g xs) k ≡ some (g (get_or xs k d))
+element_map : {A B : Type 0} (g : A → B) (d : A) (xs : List A) (k : ℕ) → k < length xs → slice_get (map g xs) k ≡ Some (g (get_or xs k d))
 element_map g d [] k h = absurd (not-suc-le-zero h)
 element_map g d (x ∷ xs) zero h = refl
 element_map g d (x ∷ xs) (suc k) h = element_map g d xs k (le_of_suc-le-suc h)
@@ -140,12 +140,12 @@ module _ (s : Program) (n : ℕ) (f : Function) (ps : List Split) (count : ℕ) 
 
   -- a branch on a variable that was taken apart
   module _ (i b : ℕ) (rest : List ℕ) (v : ℕ) (top : stack ≡ rest ++ (v ∷ [])) (p : Split) (g : Splitting v ps p) (c : ℕ) (k : Constructor)
-      (declared : constructor s c ≡ some k) where
+      (declared : constructor s c ≡ Some k) where
     stack_is : map (λ v. through ps (variable_e v)) stack ≡ map (λ v. through ps (variable_e v)) rest ++ (through ps (variable_e v) ∷ [])
     stack_is = ap (map (λ v. through ps (variable_e v))) top ∙ map-append (λ v. through ps (variable_e v)) rest (v ∷ [])
 
     split_is : split 1 (map (λ v. through ps (variable_e v)) stack)
-        ≡ some (map (λ v. through ps (variable_e v)) rest, through ps (variable_e v) ∷ [])
+        ≡ Some (map (λ v. through ps (variable_e v)) rest, through ps (variable_e v) ∷ [])
     split_is = ap (split 1) stack_is ∙ split_seam (map (λ v. through ps (variable_e v)) rest) (through ps (variable_e v) ∷ []) 1 refl
 
     pub branch_known : shape_from s n f i (Branch c b) (shape_of f ps count stack)
@@ -164,12 +164,12 @@ module _ (s : Program) (n : ℕ) (f : Function) (ps : List Split) (count : ℕ) 
 
   -- a branch on a whole variable
   module _ (i b : ℕ) (rest : List ℕ) (v : ℕ) (top : stack ≡ rest ++ (v ∷ [])) (w : Whole v ps) (c : ℕ) (k : Constructor)
-      (declared : constructor s c ≡ some k) where
-    split_whole : split 1 (map (λ v. through ps (variable_e v)) stack) ≡ some (map (λ v. through ps (variable_e v)) rest, variable_e v ∷ [])
+      (declared : constructor s c ≡ Some k) where
+    split_whole : split 1 (map (λ v. through ps (variable_e v)) stack) ≡ Some (map (λ v. through ps (variable_e v)) rest, variable_e v ∷ [])
     split_whole =
         ap (split 1) (ap (map (λ v. through ps (variable_e v))) top ∙ map-append (λ v. through ps (variable_e v)) rest (v ∷ []))
         ∙ split_seam (map (λ v. through ps (variable_e v)) rest) (through ps (variable_e v) ∷ []) 1 refl
-        ∙ ap (λ (e : Expression). some (map (λ v. through ps (variable_e v)) rest, e ∷ [])) (through_whole ps v w)
+        ∙ ap (λ (e : Expression). Some (map (λ v. through ps (variable_e v)) rest, e ∷ [])) (through_whole ps v w)
 
     pub branch_large : 16 < count + length k.arguments
         → shape_from s n f i (Branch c b) (shape_of f ps count stack) ≡ refused (refusal 9 n i)

@@ -1,7 +1,7 @@
 -- The rules on the code's saved states: a load and a branch.
 use mathlib.Core.Path.{◌≡◌, sym, ap, ◌∙◌}
 use mathlib.Core.List.{List, [], ◌∷◌, ◌++◌}
-use mathlib.Core.Option.{some}
+use Rattle.std.specs.Prelude.{Some}
 use Prim.Native.Nat.{ℕ, zero, suc, ◌+◌, ◌-◌, ◌≤◌, ◌<◌}
 use native.Mathlib.Omega.{arith}
 use native.Mathlib.Nat.{le_refl, le_trans}
@@ -98,7 +98,7 @@ module _ (s : Program) (n : ℕ) (f : Function) (st : Saved) (r : SavedRight s f
         (under_right st.count (take (st.height - 1) st.stack) (get_or st.stack (st.height - 1) 0 ∷ [])
         (rw stack_top at r.under)).0
 
-    module _ (i b c : ℕ) (k : Constructor) (known : constructor s c ≡ some k) (at : ℕ)
+    module _ (i b c : ℕ) (k : Constructor) (known : constructor s c ≡ Some k) (at : ℕ)
         (fd : Found (get_or st.stack (st.height - 1) 0) st.taken st.list at) where
       splitting : at < st.taken → Splitting (get_or st.stack (st.height - 1) 0) (splits_in st) (get_or st.list at no_split)
       splitting l =

@@ -1,7 +1,7 @@
 -- The straight line from a first build or call on: what is left of the walk stays the same from instruction to instruction.
 use mathlib.Core.Path.{◌≡◌, refl, sym, ap, ◌∙◌}
 use mathlib.Core.List.{List, [], ◌∷◌, map, append-nil}
-use mathlib.Core.Option.{some}
+use Rattle.std.specs.Prelude.{Some}
 use mathlib.Core.Bool.{Bool, true, false}
 use Prim.Native.Nat.{ℕ, zero, suc, ◌+◌, ◌-◌, ◌≤◌, ◌<◌}
 use native.Mathlib.Omega.{arith}
@@ -89,7 +89,7 @@ one_row bytes n w b fs h t c e =
 one_right : (bytes : List ℕ) (b : Bound) (w : ℕ) → w ≤ 255 → b.built ≡ true → b.count ≡ 1 → b.weight ≡ w → BoundRight bytes b
 unfolding row_in
 one_right bytes b w h t c e = record {
-  some = omega arith;
+  Some = omega arith;
   few = omega arith;
   there = λ k l z. absurd (false_true (sym z ∙ t));
   each = λ k l. rw (t, e) (record { four = refl; small = small; constant = le_trans h (omega arith) });
@@ -110,9 +110,9 @@ pub record LineGoes (file : List ℕ) (g start : ℕ) (from : Shape) (own : Form
   pub line : LineRight (program_in file) (function_in file g) shape own stack height
   pub past : Bool
   pub at : ReachedAt (program_in file) g (function_in file g) j height past
-  pub makes : past ≡ false → (ins : Instruction) → slot j (function_in file g).code ≡ some ins → Makes ins
+  pub makes : past ≡ false → (ins : Instruction) → slot j (function_in file g).code ≡ Some ins → Makes ins
   pub behind : start ≤ j
-  pub left : (arrows : List (Arrow Shape)) → first (arriving start arrows) ≡ some from
+  pub left : (arrows : List (Arrow Shape)) → first (arriving start arrows) ≡ Some from
       → left_from (program_in file) g (function_in file g) start arrows
       ≡ left_from (program_in file) g (function_in file g) j ((j, shape) ∷ arrows)
 
@@ -161,7 +161,7 @@ module _ {file heads : List ℕ} {g : ℕ} {r : Routine} {start : ℕ} {st : Sav
 
   module _ {from : Shape} {own : Form} {stack : List Form} {height j : ℕ} (l : LineGoes file g start from own stack height j) where
     -- one arrow leaves, to the next instruction
-    on : (ins : Instruction) (next : Shape) (arrows : List (Arrow Shape)) → slot j (function_in file g).code ≡ some ins
+    on : (ins : Instruction) (next : Shape) (arrows : List (Arrow Shape)) → slot j (function_in file g).code ≡ Some ins
         → shape_from (program_in file) g (function_in file g) j ins l.shape ≡ found ((suc j, next) ∷ [])
         → left_from (program_in file) g (function_in file g) j ((j, l.shape) ∷ arrows)
         ≡ left_from (program_in file) g (function_in file g) (suc j) ((suc j, next) ∷ arrows)
@@ -173,7 +173,7 @@ module _ {file heads : List ℕ} {g : ℕ} {r : Routine} {start : ℕ} {st : Sav
         ((suc j, next) ∷ (j, l.shape) ∷ arrows) ((suc j, next) ∷ arrows)
         (alike_put (suc j) (suc j) next ((j, l.shape) ∷ arrows) arrows (alike_past (suc j) j l.shape arrows (omega arith)))
       where
-        here_first : (arrows : List (Arrow Shape)) → first (arriving j ((j, l.shape) ∷ arrows)) ≡ some l.shape
+        here_first : (arrows : List (Arrow Shape)) → first (arriving j ((j, l.shape) ∷ arrows)) ≡ Some l.shape
         here_first arrows = first_put j j l.shape arrows ∙ rw (eq-eqb j j refl)
 
     -- the code's next number
@@ -198,14 +198,14 @@ module _ {file heads : List ℕ} {g : ℕ} {r : Routine} {start : ℕ} {st : Sav
 
     ---- A load
 
-    past_load : (x : ℕ) → slot j (function_in file g).code ≡ some (Load x) → l.past ≡ true
+    past_load : (x : ℕ) → slot j (function_in file g).code ≡ Some (Load x) → l.past ≡ true
     past_load x e = go l.past l.makes
       where
-        go : (p : Bool) → (p ≡ false → (ins : Instruction) → slot j (function_in file g).code ≡ some ins → Makes ins) → p ≡ true
+        go : (p : Bool) → (p ≡ false → (ins : Instruction) → slot j (function_in file g).code ≡ Some ins → Makes ins) → p ≡ true
         go true h = refl
         go false h = absurd (h refl (Load x) e)
 
-    module _ (x : ℕ) (e : slot j (function_in file g).code ≡ some (Load x)) where
+    module _ (x : ℕ) (e : slot j (function_in file g).code ≡ Some (Load x)) where
       pub line_load_asks : (1 ≤ x) × (x ≤ height) × (height < 16)
       line_load_asks =
           let y = at_load a.walking a.there l.at x e in
@@ -225,16 +225,16 @@ module _ {file heads : List ℕ} {g : ℕ} {r : Routine} {start : ℕ} {st : Sav
 
     ---- The end
 
-    pub line_end : (ins : Instruction) → slot j (function_in file g).code ≡ some ins → (m : Maker) → MakerIs (payload file) ins m
+    pub line_end : (ins : Instruction) → slot j (function_in file g).code ≡ Some ins → (m : Maker) → MakerIs (payload file) ins m
         → m.makes ≡ false → ((x : ℕ) → ins ≡ Load x → ⊥)
-        → ((arrows : List (Arrow Shape)) → first (arriving start arrows) ≡ some from
+        → ((arrows : List (Arrow Shape)) → first (arriving start arrows) ≡ Some from
         → left_from (program_in file) g (function_in file g) start arrows ≡ left_from (program_in file) g (function_in file g) (j + 1)
         arrows)
         × (start < j + 1)
     unfolding shape_from
     line_end ins e m k z other = ((λ arrows h. l.left arrows h ∙ ends ins e m k z other arrows), (let b = l.behind in omega arith))
       where
-        stops : (ins : Instruction) → slot j (function_in file g).code ≡ some ins
+        stops : (ins : Instruction) → slot j (function_in file g).code ≡ Some ins
             → shape_from (program_in file) g (function_in file g) j ins l.shape ≡ found [] → (arrows : List (Arrow Shape))
             → left_from (program_in file) g (function_in file g) j ((j, l.shape) ∷ arrows)
             ≡ left_from (program_in file) g (function_in file g) (j + 1) arrows
@@ -246,7 +246,7 @@ module _ {file heads : List ℕ} {g : ℕ} {r : Routine} {start : ℕ} {st : Sav
             ∙ outcome_alike (shape_rule (program_in file) g (function_in file g)) (function_in file g).code (suc j) ((j, l.shape) ∷ arrows)
             arrows (alike_past (suc j) j l.shape arrows (omega arith)))
 
-        ends : (ins : Instruction) → slot j (function_in file g).code ≡ some ins → (m : Maker) → MakerIs (payload file) ins m
+        ends : (ins : Instruction) → slot j (function_in file g).code ≡ Some ins → (m : Maker) → MakerIs (payload file) ins m
             → m.makes ≡ false → ((x : ℕ) → ins ≡ Load x → ⊥) → (arrows : List (Arrow Shape))
             → left_from (program_in file) g (function_in file g) j ((j, l.shape) ∷ arrows)
             ≡ left_from (program_in file) g (function_in file g) (j + 1) arrows
@@ -270,7 +270,7 @@ module _ {file heads : List ℕ} {g : ℕ} {r : Routine} {start : ℕ} {st : Sav
           ≡ into_bound (bound_in (payload file) m.arity m.bound) (map form_in (take m.arity (drop (height - m.arity) stack)))
       pub next : ReachedAt (program_in file) g (function_in file g) (suc j) (height - m.arity + 1) true
 
-    pub line_making : (ins : Instruction) → slot j (function_in file g).code ≡ some ins → (m : Maker) → MakerIs (payload file) ins m
+    pub line_making : (ins : Instruction) → slot j (function_in file g).code ≡ Some ins → (m : Maker) → MakerIs (payload file) ins m
         → m.makes ≡ true → Making ins m
     unfolding shape_from
     line_making (Load x) e m k z = absurd (false_true (sym k ∙ z))
@@ -311,7 +311,7 @@ module _ {file heads : List ℕ} {g : ℕ} {r : Routine} {start : ℕ} {st : Sav
     line_making Return e m k z = absurd (false_true (sym k ∙ z))
     line_making Stop e m k z = absurd (false_true (sym k ∙ z))
 
-    module _ (ins : Instruction) (is : slot j (function_in file g).code ≡ some ins) (m : Maker) (k : Making ins m) where
+    module _ (ins : Instruction) (is : slot j (function_in file g).code ≡ Some ins) (m : Maker) (k : Making ins m) where
       -- the arguments
       pub line_from : (height - m.arity < 16) × (height - m.arity ≤ height)
       line_from = let z = at_low a.walking a.there k.next in (omega arith, omega arith)
@@ -334,7 +334,7 @@ module _ {file heads : List ℕ} {g : ℕ} {r : Routine} {start : ℕ} {st : Sav
             let z = l.line.long in let y = l.line.high in let u = k.high in
             rw (← top_taken stack (height - m.arity) m.arity k.few (omega arith)) mk
 
-        pub line_large : x.count ≡ 0 → (arrows : List (Arrow Shape)) → first (arriving start arrows) ≡ some from
+        pub line_large : x.count ≡ 0 → (arrows : List (Arrow Shape)) → first (arriving start arrows) ≡ Some from
             → left_from (program_in file) g (function_in file g) start arrows ≡ refused (refusal 9 g j)
         line_large z arrows e =
             l.left arrows e
@@ -351,7 +351,7 @@ module _ {file heads : List ℕ} {g : ℕ} {r : Routine} {start : ℕ} {st : Sav
               (k.rule ∙ enter_goes g l.line j m.arity k.symbol k.high _ k.form x made some_made)
 
           pub line_uncovered : covers (form_in own) (form_in x) ≡ false → (arrows : List (Arrow Shape))
-              → first (arriving start arrows) ≡ some from
+              → first (arriving start arrows) ≡ Some from
               → left_from (program_in file) g (function_in file g) start arrows ≡ refused (refusal 10 g (j + 1))
           line_uncovered z arrows e =
               let there = at_some a.walking a.there k.next in

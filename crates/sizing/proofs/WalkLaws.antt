@@ -2,12 +2,12 @@
 use Rattle.std.specs.Prelude.{if◌then◌else◌}
 use mathlib.Core.Path.{◌≡◌, refl, sym, ap, ◌∙◌}
 use mathlib.Core.List.{List, [], ◌∷◌, ◌++◌}
-use mathlib.Core.Option.{Option, none, some}
+use Rattle.std.specs.Prelude.{Option, None, Some, slice_get}
 use mathlib.Core.Bool.{Bool, true, false}
 use Prim.Native.Nat.{ℕ, zero, suc, ◌+◌, ◌-◌, ◌≤◌, ◌<◌}
 use native.Mathlib.Omega.{arith}
 use native.Mathlib.Nat.{le_trans, le_of_eq}
-use lib.ListN.{length, drop, get_elem?, drop_of_length-le}
+use lib.ListN.{length, drop, drop_of_length-le}
 use lib.Dec.{eqb}
 use borrow.Author.Tests.{eq-eqb, ne_eqb, eqb-true, eqb-false}
 use Rattle.rules.specs.declared.records.Instruction.{Instruction}
@@ -19,7 +19,7 @@ use Rattle.rules.proofs.WalkLaws.{count, slot_there, origin_is, Tree}
 use Rattle.rules.proofs.WalkingLaws.{so_far, so_far_here, so_far_start, so_far_other, so_far_new}
 use Rattle.sizing.specs.Left.{visited, walk, outcome, Alike}
 
-drop_element : {A : Type 0} (xs : List A) (k : ℕ) {x : A} → get_elem? xs k ≡ some x → drop k xs ≡ x ∷ drop (suc k) xs
+drop_element : {A : Type 0} (xs : List A) (k : ℕ) {x : A} → slice_get xs k ≡ Some x → drop k xs ≡ x ∷ drop (suc k) xs
 drop_element [] k e = absurd (none_some e)
 drop_element (y ∷ xs) zero e = ap (λ (z : _). z ∷ xs) (some_inj e)
 drop_element (y ∷ xs) (suc k) e = drop_element xs k e
@@ -27,7 +27,7 @@ drop_element (y ∷ xs) (suc k) e = drop_element xs k e
 module _ {S : Type 0} where
   ---- Arrows
 
-  first_here : (t : ℕ) (x : S) (A : List (Arrow S)) → first (arriving t ((t, x) ∷ A)) ≡ some x
+  first_here : (t : ℕ) (x : S) (A : List (Arrow S)) → first (arriving t ((t, x) ∷ A)) ≡ Some x
   unfolding arriving
   first_here t x A = rw (eq-eqb t t refl)
 
@@ -37,10 +37,10 @@ module _ {S : Type 0} where
 
   -- an arrow to t on top: what arrives first
   pub first_put : (j t : ℕ) (x : S) (A : List (Arrow S))
-      → first (arriving j ((t, x) ∷ A)) ≡ (if eqb j t then some x else first (arriving j A))
+      → first (arriving j ((t, x) ∷ A)) ≡ (if eqb j t then Some x else first (arriving j A))
   first_put j t x A = go (eqb j t) refl
     where
-      go : (b : Bool) → eqb j t ≡ b → first (arriving j ((t, x) ∷ A)) ≡ (if b then some x else first (arriving j A))
+      go : (b : Bool) → eqb j t ≡ b → first (arriving j ((t, x) ∷ A)) ≡ (if b then Some x else first (arriving j A))
       go true e = rw (eqb-true j t e) (first_here t x A)
       go false e = ap first (arriving_else j t x A (eqb-false j t e))
 
@@ -48,15 +48,15 @@ module _ {S : Type 0} where
   pub alike_past : (i t : ℕ) (x : S) (A : List (Arrow S)) → t < i → Alike i ((t, x) ∷ A) A
   alike_past i t x A h j l = ap first (arriving_else j t x A (λ e. omega arith))
 
-  pub alike_here : (i : ℕ) (x : S) (A : List (Arrow S)) → first (arriving i A) ≡ some x → Alike i A ((i, x) ∷ A)
+  pub alike_here : (i : ℕ) (x : S) (A : List (Arrow S)) → first (arriving i A) ≡ Some x → Alike i A ((i, x) ∷ A)
   alike_here i x A h j l = go (eqb j i) refl ∙ sym (first_put j i x A)
     where
-      go : (b : Bool) → eqb j i ≡ b → first (arriving j A) ≡ (if b then some x else first (arriving j A))
+      go : (b : Bool) → eqb j i ≡ b → first (arriving j A) ≡ (if b then Some x else first (arriving j A))
       go true e = rw (eqb-true j i e) h
       go false e = refl
 
   pub alike_put : (i t : ℕ) (x : S) (A B : List (Arrow S)) → Alike i A B → Alike i ((t, x) ∷ A) ((t, x) ∷ B)
-  alike_put i t x A B h j l = first_put j t x A ∙ ap (λ (o : Option S). if eqb j t then some x else o) (h j l) ∙ sym (first_put j t x B)
+  alike_put i t x A B h j l = first_put j t x A ∙ ap (λ (o : Option S). if eqb j t then Some x else o) (h j l) ∙ sym (first_put j t x B)
 
   alike_append : (L : List (Arrow S)) (i : ℕ) (A B : List (Arrow S)) → Alike i A B → Alike i (L ++ A) (L ++ B)
   alike_append [] i A B h = h
@@ -108,30 +108,30 @@ module _ {S : Type 0} where
       unfolding outcome
       outcome_suc i A = let z : suc i - 1 ≡ i = omega arith in ap (λ (k : ℕ). only (walk (visited rule) (suc i) A (drop k code))) z
 
-      outcome_step : (i : ℕ) (A : List (Arrow S)) {ins : Instruction} → slot i code ≡ some ins
+      outcome_step : (i : ℕ) (A : List (Arrow S)) {ins : Instruction} → slot i code ≡ Some ins
           → outcome rule code i A ≡ only (onward (drop i code) i A (visited rule i ins (arriving i A)))
       unfolding walk
       outcome_step zero A e = absurd (none_some e)
       outcome_step (suc k) A e =
           outcome_suc k A ∙ ap (λ (l : List Instruction). only (walk (visited rule) (suc k) A l)) (drop_element code k e)
 
-      module _ (i : ℕ) (A : List (Arrow S)) {ins : Instruction} (at : slot i code ≡ some ins) where
-        by_state : {x : S} → first (arriving i A) ≡ some x → visited rule i ins (arriving i A) ≡ rule i ins x
+      module _ (i : ℕ) (A : List (Arrow S)) {ins : Instruction} (at : slot i code ≡ Some ins) where
+        by_state : {x : S} → first (arriving i A) ≡ Some x → visited rule i ins (arriving i A) ≡ rule i ins x
         by_state {x} e = by_first i ins (arriving i A) (x ∷ []) e
 
         -- nothing arrives
-        pub outcome_skipped : first (arriving i A) ≡ none → outcome rule code i A ≡ outcome rule code (suc i) A
+        pub outcome_skipped : first (arriving i A) ≡ None → outcome rule code i A ≡ outcome rule code (suc i) A
         outcome_skipped e =
             outcome_step i A at ∙ ap (λ (t : Tried (List (Arrow S))). only (onward (drop i code) i A t))
             (by_first i ins (arriving i A) [] e)
             ∙ only_later (arriving i A) (walk (visited rule) (suc i) A (drop i code)) ∙ sym (outcome_suc i A)
 
-        pub outcome_refused : (x : S) (r : Refusal) → first (arriving i A) ≡ some x → rule i ins x ≡ refused r
+        pub outcome_refused : (x : S) (r : Refusal) → first (arriving i A) ≡ Some x → rule i ins x ≡ refused r
             → outcome rule code i A ≡ refused r
         outcome_refused x r e h =
             outcome_step i A at ∙ ap (λ (t : Tried (List (Arrow S))). only (onward (drop i code) i A t)) (by_state e ∙ h)
 
-        pub outcome_goes : (x : S) (L : List (Arrow S)) → first (arriving i A) ≡ some x → rule i ins x ≡ found L
+        pub outcome_goes : (x : S) (L : List (Arrow S)) → first (arriving i A) ≡ Some x → rule i ins x ≡ found L
             → outcome rule code i A ≡ outcome rule code (suc i) (L ++ A)
         outcome_goes x L e h =
             outcome_step i A at ∙ ap (λ (t : Tried (List (Arrow S))). only (onward (drop i code) i A t)) (by_state e ∙ h)
@@ -164,25 +164,25 @@ module _ {S : Type 0} (rule : ℕ → Instruction → S → Tried (List (Arrow S
   Brought k A = (j : ℕ) → k < j → j ≤ length code → first (arriving j A) ≡ so_far rule x₁ code k j
 
   -- one instruction more hands on this
-  module _ (k : ℕ) (A : List (Arrow S)) (ins : Instruction) (c : slot (suc k) code ≡ some ins) (b : Brought k A) where
-    by_origin : {Z : Type 0} (j : ℕ) → (origin code j ≡ some (suc k) → Z) → ((origin code j ≡ some (suc k) → ⊥) → Z) → Z
+  module _ (k : ℕ) (A : List (Arrow S)) (ins : Instruction) (c : slot (suc k) code ≡ Some ins) (b : Brought k A) where
+    by_origin : {Z : Type 0} (j : ℕ) → (origin code j ≡ Some (suc k) → Z) → ((origin code j ≡ Some (suc k) → ⊥) → Z) → Z
     by_origin {Z} j from apart = one (origin code j) refl
       where
         one : (o : Option ℕ) → origin code j ≡ o → Z
-        one none e = apart (λ q. none_some (sym e ∙ q))
-        one (some i) e = two (eqb i (suc k)) refl
+        one None e = apart (λ q. none_some (sym e ∙ q))
+        one (Some i) e = two (eqb i (suc k)) refl
           where
             two : (t : Bool) → eqb i (suc k) ≡ t → Z
-            two true q = from (e ∙ ap some (eqb-true i (suc k) q))
+            two true q = from (e ∙ ap Some (eqb-true i (suc k) q))
             two false q = apart (λ p. eqb-false i (suc k) q (some_inj (sym e ∙ p)))
 
-    brought_none : at (suc k) ≡ none → Brought (suc k) A
+    brought_none : at (suc k) ≡ None → Brought (suc k) A
     brought_none e j lo hi =
         b j (omega arith) hi
         ∙ by_origin j (λ o. let n = so_far_new rule x₁ code k j o in n.0 ∙ sym (n.1
         ∙ rw (c, e))) (λ o. sym (so_far_other rule x₁ code k j o))
 
-    brought_more : (x : S) (L : List (Arrow S)) → at (suc k) ≡ some x → rule (suc k) ins x ≡ found L → Brought (suc k) (L ++ A)
+    brought_more : (x : S) (L : List (Arrow S)) → at (suc k) ≡ Some x → rule (suc k) ins x ≡ found L → Brought (suc k) (L ++ A)
     brought_more x L e r j lo hi = rw (arriving_append j L A) (one (arriving j L) refl)
       where
         one : (xs : List S) → arriving j L ≡ xs → first (xs ++ arriving j A) ≡ so_far rule x₁ code (suc k) j
@@ -207,18 +207,18 @@ module _ {S : Type 0} (rule : ℕ → Instruction → S → Tried (List (Arrow S
       ∙ so_far_here rule x₁ code k (omega arith) in
       rw (drop_element code k c.1) (one c.0 c.1 (at (suc k)) refl here (λ B q. judged_from m (suc k) B (omega arith) q))
     where
-      two : (ins : Instruction) → slot (suc k) code ≡ some ins → (x : S) → at (suc k) ≡ some x → first (arriving (suc k) A) ≡ some x
+      two : (ins : Instruction) → slot (suc k) code ≡ Some ins → (x : S) → at (suc k) ≡ Some x → first (arriving (suc k) A) ≡ Some x
           → (t : Tried (List (Arrow S))) → rule (suc k) ins x ≡ t
           → ((B : List (Arrow S)) → Brought (suc k) B → outcome rule code (suc (suc k)) B ≡ each test (suc (suc k)) (drop (suc k) code))
           → outcome rule code (suc k) A ≡ (only t >>= (λ _. each test (suc (suc k)) (drop (suc k) code)))
       two ins c x e h (found L) r ih = outcome_goes rule code (suc k) A c x L h r ∙ ih (L ++ A) (brought_more k A ins c b x L e r)
       two ins c x e h (refused q) r ih = outcome_refused rule code (suc k) A c x q h r
 
-      one : (ins : Instruction) → slot (suc k) code ≡ some ins → (o : Option S) → at (suc k) ≡ o → first (arriving (suc k) A) ≡ at (suc k)
+      one : (ins : Instruction) → slot (suc k) code ≡ Some ins → (o : Option S) → at (suc k) ≡ o → first (arriving (suc k) A) ≡ at (suc k)
           → ((B : List (Arrow S)) → Brought (suc k) B → outcome rule code (suc (suc k)) B ≡ each test (suc (suc k)) (drop (suc k) code))
           → outcome rule code (suc k) A ≡ (test (suc k) ins >>= (λ _. each test (suc (suc k)) (drop (suc k) code)))
-      one ins c none e h ih = rw e (outcome_skipped rule code (suc k) A c (h ∙ e) ∙ ih A (brought_none k A ins c b e))
-      one ins c (some x) e h ih = rw e (two ins c x e (h ∙ e) (rule (suc k) ins x) refl ih)
+      one ins c None e h ih = rw e (outcome_skipped rule code (suc k) A c (h ∙ e) ∙ ih A (brought_none k A ins c b e))
+      one ins c (Some x) e h ih = rw e (two ins c x e (h ∙ e) (rule (suc k) ins x) refl ih)
 
   pub walk_judged : outcome rule code 1 ((1, x₁) ∷ []) ≡ judged rule (root_at 1 x₁) code
   unfolding judged along state_at arriving
@@ -227,6 +227,6 @@ module _ {S : Type 0} (rule : ℕ → Instruction → S → Tried (List (Arrow S
       one : (j : ℕ) → first (arriving j ((1, x₁) ∷ [])) ≡ root_at 1 x₁ j
       one j = two (eqb 1 j)
         where
-          two : (t : Bool) → first (if t then x₁ ∷ [] else []) ≡ (if t then some x₁ else none)
+          two : (t : Bool) → first (if t then x₁ ∷ [] else []) ≡ (if t then Some x₁ else None)
           two true = refl
           two false = refl

@@ -1,6 +1,6 @@
 -- What the steps of the walk ask and say.
 use Rattle.std.specs.Prelude.{if◌then◌else◌, ◌≡◌, List, [], ◌∷◌, ◌++◌, true, false, ℕ, ◌+◌, ◌≤◌, ◌<◌, length}
-use Rattle.std.proofs.Math.Option.{Option, none, some}
+use Rattle.std.specs.Prelude.{Option, None, Some}
 use Rattle.rules.specs.declared.answers.Checked.{Checked}
 use Rattle.rules.specs.declared.answers.Checked.TheVariants as checked
 use Rattle.rules.specs.declared.records.Instruction.{Instruction}
@@ -53,7 +53,7 @@ pub record MoveAsks (file heads : List ℕ) (g i : ℕ) (st : Saved) (ins : Inst
   pub function : FunctionAsks file heads g
   pub visited : st.visited ≡ true
   pub fit : Fit file g i st
-  pub is : slot i (function_in file g).code ≡ some ins
+  pub is : slot i (function_in file g).code ≡ Some ins
 
 pub record LineMoveAsks (file heads : List ℕ) (g : ℕ) (r : Routine) (i : ℕ) (st : Saved) : Type 0 where
   pub ins : Instruction
@@ -72,7 +72,7 @@ pub record StepAsks (file heads : List ℕ) (g : ℕ) (r : Routine) (i : ℕ) (s
 
 -- the shape that a slot holds
 abbrev pub standing : Function → Saved → Option Shape
-standing f st = if st.visited then some (shape_in f st) else none
+standing f st = if st.visited then Some (shape_in f st) else None
 
 -- the arrows that leave
 abbrev pub leaving : Function → Moved → List (Arrow Shape)

@@ -1,6 +1,6 @@
 -- The splits of a path, oldest first: what a variable stands for after them, and its size.
 use Rattle.std.specs.Prelude.{◌≡◌, ℕ, zero, suc, ◌+◌, ◌≤◌, ◌<◌, List, [], ◌∷◌, map, ◌⊎◌, length, get_or, take}
-use Rattle.std.proofs.Math.Option.{some}
+use Rattle.std.specs.Prelude.{Some}
 use Rattle.rules.specs.declared.records.Alternative.{Alternative}
 use Rattle.rules.specs.Base.{byte_at}
 use Rattle.rules.specs.Container.{payload}
@@ -46,7 +46,7 @@ carried s (p ∷ ps) a = carried s ps (put p.variable (split_a s p) a)
 pub record SplitRight (s : Program) (p : Split) : Type 0 where
   pub small : p.variable < 16
   pub declared_as : Constructor
-  pub known : constructor s p.constructor ≡ some declared_as
+  pub known : constructor s p.constructor ≡ Some declared_as
   pub arity : length declared_as.arguments ≡ p.parts
 
 abbrev pub SplitsRight : Program → List Split → Type 0
@@ -76,7 +76,7 @@ shape_of f ps count stack = record {
 pub record Tidy (n k : ℕ) (a : Alternative) : Type 0 where
   pub wide : Wide a
   pub most : (i : ℕ) → coefficient a i ≤ 15
-  pub none : (i : ℕ) → n ≤ i → coefficient a i ≡ 0
+  pub None : (i : ℕ) → n ≤ i → coefficient a i ≡ 0
   pub constant : a.constant ≤ k
 
 -- tidy, or one variable that has not come up

@@ -1,6 +1,6 @@
 -- What the code's steps say, by the definitions.
 use Rattle.std.specs.Prelude.{◌≡◌, List, [], ◌∷◌, Bool, true, false, ℕ, suc, ◌+◌, ◌-◌, ◌≤◌, ◌<◌, length, take, get_or}
-use Rattle.std.proofs.Math.Option.{some}
+use Rattle.std.specs.Prelude.{Some}
 use Rattle.rules.specs.declared.records.Instruction.TheVariants.{Branch}
 use Rattle.rules.specs.Base.{found, refused, refusal, numbered}
 use Rattle.rules.specs.Container.{payload}
@@ -27,7 +27,7 @@ abbrev pub top_of : Saved → ℕ
 top_of st = get_or st.stack (st.height - 1) 0
 
 pub record BranchAsks (st : Saved) (c parts : ℕ) : Type 0 where
-  pub some : 0 < st.height
+  pub Some : 0 < st.height
   pub high : st.height ≤ 16
   pub fits : st.height + parts ≤ 17
   pub few : st.taken ≤ 16
@@ -55,7 +55,7 @@ pub record BranchSays (s : Program) (n : ℕ) (f : Function) (i b c parts : ℕ)
 -- for every program that the state stands for
 abbrev pub Branching : Saved → ℕ → ℕ → Branched → Type 0
 Branching st c parts r =
-    (s : Program) (n : ℕ) (f : Function) (i b : ℕ) (k : Constructor) → SavedRight s f st → st.visited ≡ true → constructor s c ≡ some k
+    (s : Program) (n : ℕ) (f : Function) (i b : ℕ) (k : Constructor) → SavedRight s f st → st.visited ≡ true → constructor s c ≡ Some k
     → parts ≡ length k.arguments → BranchSays s n f i b c parts st r
 
 -- the variable at place i of the stack can be taken through the splits

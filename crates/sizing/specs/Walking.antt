@@ -1,6 +1,6 @@
 -- What the code's walk over a function asks and says.
 use Rattle.std.specs.Prelude.{◌≡◌, List, false, ℕ, ◌<◌}
-use Rattle.std.proofs.Math.Option.{some}
+use Rattle.std.specs.Prelude.{Some}
 use Rattle.rules.specs.declared.records.Instruction.{Instruction}
 use Rattle.rules.specs.declared.records.Instruction.TheVariants.{Load, Build, Call, Branch, Return, Stop}
 use Rattle.rules.specs.Base.{refused, Check, byte_at}
@@ -40,7 +40,7 @@ pub record LineAsks (file heads : List ℕ) (g : ℕ) (r : Routine) (start : ℕ
   pub there : g < byte_at (payload file) 3
   pub routine : RoutineIs (payload file) (head_offset (payload file) g) r
   pub at : ReachedAt (program_in file) g (function_in file g) start st.height false
-  pub makes : (ins : Instruction) → slot start (function_in file g).code ≡ some ins → Makes ins
+  pub makes : (ins : Instruction) → slot start (function_in file g).code ≡ Some ins → Makes ins
   pub right : SavedRight (program_in file) (function_in file g) st
 
 -- what is left of the walk behind the line, where it passed
@@ -54,6 +54,6 @@ Further start (Refused why) = Unit {0}
 
 -- for all arrows, of which the first to the start brings this state
 pub record LineSays (file : List ℕ) (g start : ℕ) (st : Saved) (r : Straight) : Type 0 where
-  pub left : (arrows : List (Arrow Shape)) → first (arriving start arrows) ≡ some (shape_in (function_in file g) st)
+  pub left : (arrows : List (Arrow Shape)) → first (arriving start arrows) ≡ Some (shape_in (function_in file g) st)
       → left_from (program_in file) g (function_in file g) start arrows ≡ line_left file g r arrows
   pub further : Further start r

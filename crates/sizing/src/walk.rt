@@ -1,6 +1,6 @@
 // The walk over a function's code in file order, and over all functions.
 ghost use Rattle.std.specs.Prelude.{if◌then◌else◌, ◌≡◌, List, ℕ, ◌≤◌};
-ghost use Rattle.rules.specs.Answers.{told_check};
+ghost use Rattle.rules.specs.Answers.{told};
 ghost use Rattle.rules.specs.Records.{program_in, function_in};
 ghost use Rattle.rules.specs.Shapes.{sizes_of, sizes_right};
 ghost use Rattle.rules.specs.declared.records.Instruction.TheVariants as ins;
@@ -149,7 +149,7 @@ fn step(file: &[u8], heads: &[usize; 32], g: usize, f: Routine, i: usize, st: Sa
 // Function g: a slot for each instruction holds what arrives there.
 fn function_sizes(file: &[u8], heads: &[usize; 32], g: usize) -> Checked
     requires { FunctionAsks file.now heads.now g }
-    ensures { told_check result ≡ sizes_of (program_in file.now) g (function_in file.now g) }
+    ensures { told result ≡ sizes_of (program_in file.now) g (function_in file.now g) }
 {
     let f = routine_at(file, heads[g]);
     let mut saved = [unvisited(); 258];
@@ -177,7 +177,7 @@ fn function_sizes(file: &[u8], heads: &[usize; 32], g: usize) -> Checked
 // For the crates above: 10 and 9 over all functions.
 pub fn sizes(file: &[u8], header: Header, heads: &[usize; 32]) -> Checked
     requires { Typechecked file.now × LaidOut file.now header heads.now }
-    ensures { told_check result ≡ sizes_right (program_in file.now) }
+    ensures { told result ≡ sizes_right (program_in file.now) }
 {
     let m = header.functions as usize;
     let mut g: usize = 0;

@@ -1,7 +1,7 @@
 -- An accepted program called: no such entry, arguments that are not right, no room for the start, or the run begins.
 use mathlib.Core.Path.{◌≡◌, sym, ap, ◌∙◌}
 use mathlib.Core.List.{List}
-use mathlib.Core.Option.{none, some}
+use Rattle.std.specs.Prelude.{None, Some}
 use Prim.Native.Nat.{ℕ, ◌/◌, ◌≤◌, ◌<◌, min}
 use native.Mathlib.Omega.{arith}
 use lib.ListN.{length, get_or}
@@ -19,7 +19,7 @@ use Rattle.rules.specs.Records.{function_of, program_of, program_in, function_in
 use Rattle.rules.specs.Established.{Accepted, LaidOut}
 use Rattle.rules.specs.Prefix.{arguments_right, values}
 use Rattle.rules.specs.Run.{usable, cells_loaded, with_arguments}
-use Rattle.rules.specs.Answers.{told_check}
+use Rattle.rules.specs.Answers.{told}
 use Rattle.rules.proofs.NumberedLaws.{numbered_past}
 use Rattle.rules.proofs.RunLaws.{load_no_entry, load_bad_arguments, load_no_room}
 use Rattle.rules.proofs.ListLaws.{at_less}
@@ -110,7 +110,7 @@ module _ {file index : List ℕ} {entry : ℕ} {arguments : List ℕ} (k : Calla
 ---- An accepted program
 
 module _ {file : List ℕ} {header : Header} {heads : List ℕ} (laid : LaidOut file header heads) {entry : ℕ} where
-  no_function : header.functions ≤ entry → function (program_in file) entry ≡ none
+  no_function : header.functions ≤ entry → function (program_in file) entry ≡ None
   unfolding program_of
   no_function h = numbered_past (function_in file) (byte_at (payload file) 3) 0 entry (omega (arith, h, functions_count laid.headed))
 
@@ -118,10 +118,10 @@ module _ {file : List ℕ} {header : Header} {heads : List ℕ} (laid : LaidOut 
     pub head_there : HeadThere (payload file) head
     head_there = rw at (record { whole = (function_placed laid entry h).head; few = (function_placed laid entry h).arity })
 
-    known : function (program_in file) entry ≡ some (function_of (payload file) head)
+    known : function (program_in file) entry ≡ Some (function_of (payload file) head)
     known =
         function_is (payload file) entry (omega (arith, h, functions_count laid.headed))
-        ∙ ap (λ (o : ℕ). some (function_of (payload file) o)) (sym (head_placed laid entry h) ∙ sym at)
+        ∙ ap (λ (o : ℕ). Some (function_of (payload file) o)) (sym (head_placed laid entry h) ∙ sym at)
 
 module _ {file : List ℕ} (a : Accepted file) {header : Header} {heads : List ℕ} (laid : LaidOut file header heads) {entry : ℕ}
     {arguments : List ℕ} where
@@ -132,20 +132,20 @@ module _ {file : List ℕ} (a : Accepted file) {header : Header} {heads : List �
         (load_no_entry with_arguments (program_in file) (usable (lent_of cells stack frames out)) entry arguments (no_function laid h))
 
     pub bad_arguments : entry < header.functions → {head : ℕ} → head ≡ get_or heads entry 0
-        → {c : Checked} → told_check c ≡ arguments_right (program_in file) (function_of (payload file) head) arguments
+        → {c : Checked} → told c ≡ arguments_right (program_in file) (function_of (payload file) head) arguments
         → (r : Reason) → c ≡ rule.Refused r → RefusedRun file entry arguments budget cells stack frames out r
     bad_arguments h {head} at says r e =
         not_loaded file entry arguments budget cells stack frames out (accepted_checked a) r
         (load_bad_arguments with_arguments (program_in file) (usable (lent_of cells stack frames out)) entry arguments
-        (function_of (payload file) head) (known laid h at) (sym says ∙ ap told_check e))
+        (function_of (payload file) head) (known laid h at) (sym says ∙ ap told e))
 
   pub callable : entry < header.functions → {head : ℕ} → head ≡ get_or heads entry 0
-      → {c : Checked} → told_check c ≡ arguments_right (program_in file) (function_of (payload file) head) arguments
+      → {c : Checked} → told c ≡ arguments_right (program_in file) (function_of (payload file) head) arguments
       → {index : List ℕ} → Indexed file index → c ≡ rule.Right → Callable file index entry arguments
   callable h {head} at says i e = record {
     accepted = a;
     indexed = i;
     f = function_of (payload file) head;
     known = known laid h at;
-    right = sym says ∙ ap told_check e;
+    right = sym says ∙ ap told e;
   }

@@ -1,6 +1,6 @@
 -- What the parts of a beginning ask and ensure.
 use Rattle.std.specs.Prelude.{◌≡◌, List, true, false, ℕ, ◌≤◌, ◌<◌, length}
-use Rattle.std.proofs.Math.Option.{some}
+use Rattle.std.specs.Prelude.{Some}
 use Rattle.rules.specs.Records.{program_in}
 use Rattle.rules.specs.Base.{passed}
 use Rattle.rules.specs.Heap.{allocated_for}
@@ -23,7 +23,7 @@ pub record Callable (file index : List ℕ) (entry : ℕ) (arguments : List ℕ)
   pub accepted : Accepted file
   pub indexed : Indexed file index
   pub f : Function
-  pub known : function (program_in file) entry ≡ some f
+  pub known : function (program_in file) entry ≡ Some f
   pub right : arguments_right (program_in file) f arguments ≡ passed
 
 -- and tables with room for the start, with the function's n arguments

@@ -2,7 +2,7 @@
 use Prim.Native.Nat.{ℕ, suc, ◌+◌, ◌-◌, ◌≤◌, ◌<◌}
 use mathlib.Core.Path.{◌≡◌, refl, sym, ap, ap₂, ◌∙◌, subst}
 use mathlib.Core.List.{List, ◌∷◌, ◌++◌}
-use mathlib.Core.Option.{none, some}
+use Rattle.std.specs.Prelude.{None, Some}
 use mathlib.Core.Bool.{false, true}
 use native.Mathlib.Omega.{arith}
 use native.Mathlib.Nat.{add-zero}
@@ -36,7 +36,7 @@ use Rattle.steps.proofs.StandLaws.{waiting_length, lives, put_state, top_heights
 use Rattle.steps.proofs.StepLaws.{took, refuses_stack, Comes, comes_on, comes_short, moved_laid, next_stands}
 
 module _ (file : List ℕ) (m : Limits) (cells stack : List ℕ) (r : Registers) (i : ℕ) (ws : List Frame)
-    (ok : Standing file m cells stack r i ws) (c b : ℕ) (cur : current (program_in file) (place r.function i) ≡ some (Branch c b)) where
+    (ok : Standing file m cells stack r i ws) (c b : ℕ) (cur : current (program_in file) (place r.function i) ≡ Some (Branch c b)) where
   abbrev s : Program
   s = program_in file
 
@@ -56,7 +56,7 @@ module _ (file : List ℕ) (m : Limits) (cells stack : List ℕ) (r : Registers)
   abbrev k : ℕ
   k = top_reference stack r
 
-  ends : end_on (program_in file) here.heap here.frames ≡ none
+  ends : end_on (program_in file) here.heap here.frames ≡ None
   unfolding returned
   ends = not_ended s here.heap fr others cur refl
 
@@ -88,11 +88,11 @@ module _ (file : List ℕ) (m : Limits) (cells stack : List ℕ) (r : Registers)
   abbrev next : HeapState
   next = heap_state here.heap (branched (program_in file) here.heap fr others c b rest k ∷ others)
 
-  steps : heap_step (program_in file) here ≡ some next
+  steps : heap_step (program_in file) here ≡ Some next
   unfolding refs
   steps =
       step_is s here.heap fr others cur
-      ∙ exec_branch s here.heap fr others c b (refs_split stack r.base h 1 deep) (ap (λ (j : ℕ). some (get_or stack j 0)) last)
+      ∙ exec_branch s here.heap fr others c b (refs_split stack r.base h 1 deep) (ap (λ (j : ℕ). Some (get_or stack j 0)) last)
 
   the_cell : cell_at here.heap k
       ≡ cell (label_in cells k) (arguments_in cells (cell_of k) (arity_in (arity (program_in file)) cells k))
@@ -115,14 +115,14 @@ module _ (file : List ℕ) (m : Limits) (cells stack : List ℕ) (r : Registers)
     passes = simp (ne_eqb _ _ (λ (e : constructor_of here.heap k ≡ c). other (sym the_constructor ∙ e)))
 
     -- there is an instruction
-    pub branch_target : (ins : Instruction) × (current (program_in file) (place r.function b) ≡ some ins)
-    branch_target = current_next file m cells stack r i ws ok (steps ∙ ap some passes)
+    pub branch_target : (ins : Instruction) × (current (program_in file) (place r.function b) ≡ Some ins)
+    branch_target = current_next file m cells stack r i ws ok (steps ∙ ap Some passes)
 
     passed : (budget : ℕ) → r.left ≤ budget → 0 < r.left → 0 < b → (at : ℕ) → Behind r.code (b - 1) at → at ≤ 40000
         → LeadsTo file m budget cells stack r i ws cells stack (counted (moved r at r.top)) b ws
     passed budget fits left low at behind near =
         let e : 1 + (b - 1) ≡ b = omega arith in
-        took file m budget cells stack r i ws fits ok cells stack (counted (moved r at r.top)) b ws ends (steps ∙ ap some passes)
+        took file m budget cells stack r i ws fits ok cells stack (counted (moved r at r.top)) b ws ends (steps ∙ ap Some passes)
         (moved_laid file m cells r i ws ok.laid at b r.top
         (subst (λ (j : ℕ). StandsAt file r.function j at) e (behind_stands file r.function 1 r.code (b - 1) at ok.laid.code
         behind))
@@ -163,8 +163,8 @@ module _ (file : List ℕ) (m : Limits) (cells stack : List ℕ) (r : Registers)
           ap₂ (λ (x y : ℕ). refs stack r.base x ++ arguments_in cells (cell_of k) y) (sym e) has ∙ sym p.0
           ∙ ap (λ (x : ℕ). refs stack' r.base (r.top - 1 + x - r.base)) (arguments_length cells (cell_of k) n) in
           took file m budget cells stack r i ws fits ok cells stack' (counted (moved r at (r.top - 1 + n))) (suc i) ws ends
-          (steps ∙ ap some taken
-          ∙ ap₂ (λ (x : List ℕ) (y : List HeapFrame). some (heap_state here.heap (heap_onward fr x ∷ y))) top_is (sym p.1))
+          (steps ∙ ap Some taken
+          ∙ ap₂ (λ (x : List ℕ) (y : List HeapFrame). Some (heap_state here.heap (heap_onward fr x ∷ y))) top_is (sym p.1))
           (moved_laid file m cells r i ws ok.laid at (suc i) (r.top - 1 + n)
           (next_stands file r.function i r.at at ok.laid.at behind) near (omega (arith, deep)) room) (omega arith)
 

@@ -2,7 +2,7 @@
 use Prim.Native.Nat.{ℕ, suc, ◌+◌, ◌-◌, ◌≤◌, ◌<◌}
 use mathlib.Core.Path.{◌≡◌, refl, sym, ap, ap₂, ◌∙◌, subst}
 use mathlib.Core.List.{List, [], ◌∷◌, ◌++◌}
-use mathlib.Core.Option.{none, some}
+use Rattle.std.specs.Prelude.{None, Some}
 use native.Mathlib.Omega.{arith}
 use native.Mathlib.Numerals.{add-one}
 use lib.ListN.{length, set, length-append}
@@ -33,7 +33,7 @@ use Rattle.steps.proofs.StandLaws.{waiting_heights, waiting_length, lives, put_s
 use Rattle.steps.proofs.StepLaws.{took, refuses_stack, refuses_cells, Comes, comes_on, comes_short, moved_laid, next_stands}
 
 module _ (file : List ℕ) (m : Limits) (cells stack : List ℕ) (r : Registers) (i : ℕ) (ws : List Frame)
-    (ok : Standing file m cells stack r i ws) (c : ℕ) (cur : current (program_in file) (place r.function i) ≡ some (Build c)) where
+    (ok : Standing file m cells stack r i ws) (c : ℕ) (cur : current (program_in file) (place r.function i) ≡ Some (Build c)) where
   abbrev s : Program
   s = program_in file
 
@@ -52,11 +52,11 @@ module _ (file : List ℕ) (m : Limits) (cells stack : List ℕ) (r : Registers)
   abbrev n : ℕ
   n = arity (program_in file) c
 
-  ends : end_on (program_in file) here.heap here.frames ≡ none
+  ends : end_on (program_in file) here.heap here.frames ≡ None
   unfolding returned
   ends = not_ended s here.heap fr others cur refl
 
-  shape : (d : Constructor) × (constructor (program_in file) c ≡ some d) × (length d.arguments ≤ r.top - r.base)
+  shape : (d : Constructor) × (constructor (program_in file) c ≡ Some d) × (length d.arguments ≤ r.top - r.base)
   unfolding execute_on
   shape =
       let x = lives file m cells stack r i ws ok ends in
@@ -82,10 +82,10 @@ module _ (file : List ℕ) (m : Limits) (cells stack : List ℕ) (r : Registers)
       heap_state (allocated here.heap c made).0 (heap_onward fr (push (refs stack r.base (h - n)) (allocated here.heap c made).1) ∷
       others)
 
-  steps : heap_step (program_in file) here ≡ some next
+  steps : heap_step (program_in file) here ≡ Some next
   steps =
       let q = refs_split stack r.base h n (omega (arith, build_deep)) in
-      let q' : split (length shape.0.arguments) (refs stack r.base h) ≡ some (refs stack r.base (h - n), made) =
+      let q' : split (length shape.0.arguments) (refs stack r.base h) ≡ Some (refs stack r.base (h - n), made) =
       ap (λ (x : ℕ). split x (refs stack r.base h)) (sym is_arity) ∙ q in
       step_is s here.heap fr others cur ∙ exec_build s here.heap fr others c shape.1 q'
 
@@ -119,9 +119,9 @@ module _ (file : List ℕ) (m : Limits) (cells stack : List ℕ) (r : Registers)
 
   -- of no arguments a constant
   module _ (none_of : arity (program_in file) c ≡ 0) (room : r.top - arity (program_in file) c < m.stack) where
-    constant_step : heap_step (program_in file) here ≡ some (behind_with here.heap c)
+    constant_step : heap_step (program_in file) here ≡ Some (behind_with here.heap c)
     constant_step =
-        steps ∙ ap (λ (x : Heap × ℕ). some (behind_with x.0 x.1))
+        steps ∙ ap (λ (x : Heap × ℕ). Some (behind_with x.0 x.1))
         (allocated_constant here.heap c made (length_refs stack (r.base + (h - n)) n ∙ none_of))
 
     constant_goes : (budget : ℕ) → r.left ≤ budget → 0 < r.left → r.top - arity (program_in file) c < length stack → (at : ℕ)
@@ -133,7 +133,7 @@ module _ (file : List ℕ) (m : Limits) (cells stack : List ℕ) (r : Registers)
         took file m budget cells stack r i ws fits ok cells (set stack (r.top - n) c) (counted (moved r at (r.top - n + 1))) (suc i) ws
         ends
         (constant_step
-        ∙ ap₂ (λ (x : List ℕ) (y : List HeapFrame). some (heap_state here.heap (heap_onward fr x ∷ y))) p.0 (sym p.1))
+        ∙ ap₂ (λ (x : List ℕ) (y : List HeapFrame). Some (heap_state here.heap (heap_onward fr x ∷ y))) p.0 (sym p.1))
         (moved_laid file m cells r i ws ok.laid at (suc i) (r.top - n + 1)
         (next_stands file r.function i r.at at ok.laid.at behind) near (omega (arith, build_deep)) (omega arith)) (omega arith)
 
@@ -162,10 +162,10 @@ module _ (file : List ℕ) (m : Limits) (cells stack : List ℕ) (r : Registers)
           ∙ ap (heap_in (arity s) cells') (sym (add-one r.used))
 
       cell_step : heap_step (program_in file) here
-          ≡ some (behind_with (heap_in (arity (program_in file)) cells' (r.used + 1)) (number_of r.used))
+          ≡ Some (behind_with (heap_in (arity (program_in file)) cells' (r.used + 1)) (number_of r.used))
       cell_step =
-          steps ∙ ap (λ (x : Heap × ℕ). some (behind_with x.0 x.1)) a_cell
-          ∙ ap₂ (λ (x : Heap) (k : ℕ). some (behind_with x (number_of k))) heap_is (heap_length (arity s) cells r.used)
+          steps ∙ ap (λ (x : Heap × ℕ). Some (behind_with x.0 x.1)) a_cell
+          ∙ ap₂ (λ (x : Heap) (k : ℕ). Some (behind_with x (number_of k))) heap_is (heap_length (arity s) cells r.used)
 
       known : (k : ℕ) → k < r.used + 1 → constructor_in cells' k < length (program_in file).constructors
       known = below_or_last (λ k. constructor_in cells' k < length s.constructors) r.used
@@ -196,7 +196,7 @@ module _ (file : List ℕ) (m : Limits) (cells stack : List ℕ) (r : Registers)
           took file m budget cells stack r i ws fits ok cells' (set stack (r.top - n) (number_of r.used))
           (counted (moved_over r at (r.top - n + 1))) (suc i) ws ends
           (cell_step
-          ∙ ap₂ (λ (x : List ℕ) (y : List HeapFrame). some (heap_state (heap_in (arity s) cells' (r.used + 1)) (heap_onward fr x ∷ y)))
+          ∙ ap₂ (λ (x : List ℕ) (y : List HeapFrame). Some (heap_state (heap_in (arity s) cells' (r.used + 1)) (heap_onward fr x ∷ y)))
           p.0 (sym p.1))
           (laid at behind near) (omega arith)
 

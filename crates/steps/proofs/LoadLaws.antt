@@ -2,7 +2,7 @@
 use Prim.Native.Nat.{ℕ, suc, ◌+◌, ◌-◌, ◌≤◌, ◌<◌}
 use mathlib.Core.Path.{◌≡◌, refl, sym, ap, ap₂, ◌∙◌}
 use mathlib.Core.List.{List, [], ◌∷◌}
-use mathlib.Core.Option.{none, some}
+use Rattle.std.specs.Prelude.{None, Some}
 use native.Mathlib.Omega.{arith}
 use lib.ListN.{length, get_or, set, length-append}
 use Rattle.rules.specs.Heap.{HeapFrame, HeapState, heap_state, heap_onward, execute_on, heap_step}
@@ -27,7 +27,7 @@ use Rattle.steps.proofs.StandLaws.{waiting_heights, waiting_length, lives, put_s
 use Rattle.steps.proofs.StepLaws.{took, refuses_stack, Comes, comes_on, comes_short, moved_laid, next_stands}
 
 module _ (file : List ℕ) (m : Limits) (cells stack : List ℕ) (r : Registers) (i : ℕ) (ws : List Frame)
-    (ok : Standing file m cells stack r i ws) (a : ℕ) (cur : current (program_in file) (place r.function i) ≡ some (Load a)) where
+    (ok : Standing file m cells stack r i ws) (a : ℕ) (cur : current (program_in file) (place r.function i) ≡ Some (Load a)) where
   abbrev s : Program
   s = program_in file
 
@@ -43,11 +43,11 @@ module _ (file : List ℕ) (m : Limits) (cells stack : List ℕ) (r : Registers)
   abbrev h : ℕ
   h = r.top - r.base
 
-  ends : end_on (program_in file) here.heap here.frames ≡ none
+  ends : end_on (program_in file) here.heap here.frames ≡ None
   unfolding returned
   ends = not_ended s here.heap fr others cur refl
 
-  found_slot : (k : ℕ) × (slot a (refs stack r.base (r.top - r.base)) ≡ some k)
+  found_slot : (k : ℕ) × (slot a (refs stack r.base (r.top - r.base)) ≡ Some k)
   unfolding execute_on
   found_slot =
       let x = lives file m cells stack r i ws ok ends in
@@ -67,10 +67,10 @@ module _ (file : List ℕ) (m : Limits) (cells stack : List ℕ) (r : Registers)
   abbrev next : HeapState
   next = heap_state here.heap (heap_onward fr (push (refs stack r.base h) k) ∷ others)
 
-  steps : heap_step (program_in file) here ≡ some next
+  steps : heap_step (program_in file) here ≡ Some next
   unfolding execute_on
   steps =
-      let e : slot a (refs stack r.base h) ≡ some k = found_slot.1 ∙ ap some slot_is.2 in
+      let e : slot a (refs stack r.base h) ≡ Some k = found_slot.1 ∙ ap Some slot_is.2 in
       step_is s here.heap fr others cur ∙ rw e
 
   heights : heights_on next.frames ≡ r.top + 1
@@ -92,7 +92,7 @@ module _ (file : List ℕ) (m : Limits) (cells stack : List ℕ) (r : Registers)
       let p = put_state s ws r.base r.function r.top (k ∷ []) stack (set stack r.top k) ok.laid.linked
       (put_one stack r.top k there) ok.laid.bottom in
       took file m budget cells stack r i ws fits ok cells (set stack r.top k) (counted (moved r at (r.top + 1))) (suc i) ws ends
-      (steps ∙ ap₂ (λ (x : List ℕ) (y : List HeapFrame). some (heap_state here.heap (heap_onward fr x ∷ y))) (sym p.0) (sym p.1))
+      (steps ∙ ap₂ (λ (x : List ℕ) (y : List HeapFrame). Some (heap_state here.heap (heap_onward fr x ∷ y))) (sym p.0) (sym p.1))
       (moved_laid file m cells r i ws ok.laid at (suc i) (r.top + 1) (next_stands file r.function i r.at at ok.laid.at behind)
       near (omega (arith, ok.laid.bottom)) (omega arith)) (omega arith)
 

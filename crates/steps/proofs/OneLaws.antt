@@ -2,7 +2,7 @@
 use Prim.Native.Nat.{ℕ, ◌+◌, ◌/◌, ◌%◌, ◌≤◌, ◌<◌, ◌-◌}
 use mathlib.Core.Path.{◌≡◌, refl, ap, ◌∙◌}
 use mathlib.Core.List.{List, map}
-use mathlib.Core.Option.{some}
+use Rattle.std.specs.Prelude.{Some}
 use mathlib.Core.Bool.{true, false}
 use native.Mathlib.Omega.{arith}
 use lib.ListN.{length, set}
@@ -42,9 +42,9 @@ use Rattle.steps.proofs.BranchLaws.{branch_deep, branch_old, branch_known, branc
 module _ (file : List ℕ) (parsed : Parsed file) (m : Limits) (cells stack : List ℕ) (r : Registers) (i : ℕ) (ws : List Frame)
     (ok : Standing file m cells stack r i ws) where
   abbrev At : Instruction → Type 0
-  At ins = current (program_in file) (place r.function i) ≡ some ins
+  At ins = current (program_in file) (place r.function i) ≡ Some ins
 
-  pub there_is : (ins : Instruction) × (current (program_in file) (place r.function i) ≡ some ins)
+  pub there_is : (ins : Instruction) × (current (program_in file) (place r.function i) ≡ Some ins)
   unfolding current
   there_is =
       sound_current (program_in file) (map (frame_of (state_in (program_in file) cells stack r i ws).heap) (waiting_on stack ws r.base))
@@ -63,22 +63,22 @@ module _ (file : List ℕ) (parsed : Parsed file) (m : Limits) (cells stack : Li
 
   module _ {w : ℕ} (word : WordThere (payload file) (offset_at r.at) w) where
     pub at_load : w % 256 ≡ 1 → At (Load (w / 256 % 256))
-    at_load e = there_is.1 ∙ ap some (word_load word facts.3 facts.4 e)
+    at_load e = there_is.1 ∙ ap Some (word_load word facts.3 facts.4 e)
 
     pub at_build : w % 256 ≡ 2 → At (Build (w / 256 % 256))
-    at_build e = there_is.1 ∙ ap some (word_build word facts.3 facts.4 e)
+    at_build e = there_is.1 ∙ ap Some (word_build word facts.3 facts.4 e)
 
     pub at_call : w % 256 ≡ 3 → At (Call (w / 256 % 256))
-    at_call e = there_is.1 ∙ ap some (word_call word facts.3 facts.4 e)
+    at_call e = there_is.1 ∙ ap Some (word_call word facts.3 facts.4 e)
 
     pub at_branch : w % 256 ≡ 4 → At (Branch (w / 256 % 256) (w / 65536))
-    at_branch e = there_is.1 ∙ ap some (word_branch word facts.3 facts.4 e)
+    at_branch e = there_is.1 ∙ ap Some (word_branch word facts.3 facts.4 e)
 
     pub at_return : w % 256 ≡ 5 → At Return
-    at_return e = there_is.1 ∙ ap some (word_return word facts.3 facts.4 e)
+    at_return e = there_is.1 ∙ ap Some (word_return word facts.3 facts.4 e)
 
     pub at_stop : (w % 256 ≡ 1 → ⊥) → (w % 256 ≡ 2 → ⊥) → (w % 256 ≡ 3 → ⊥) → (w % 256 ≡ 4 → ⊥) → (w % 256 ≡ 5 → ⊥) → At Stop
-    at_stop n₁ n₂ n₃ n₄ n₅ = there_is.1 ∙ ap some (word_stop word facts.3 facts.4 n₁ n₂ n₃ n₄ n₅)
+    at_stop n₁ n₂ n₃ n₄ n₅ = there_is.1 ∙ ap Some (word_stop word facts.3 facts.4 n₁ n₂ n₃ n₄ n₅)
 
 ---- Each operation
 
@@ -149,7 +149,7 @@ module _ (file : List ℕ) (m : Limits) (cells stack : List ℕ) (r : Registers)
       build_comes file m cells stack r j vs on a (at_build file ready.parsed m cells stack r j vs on word e)
       (in_range ready.parsed) budget fits left ready.going ready.lent.stack_room next behind near _ is x)
     where
-      cur : current (program_in file) (place r.function i) ≡ some (Build (w / 256 % 256))
+      cur : current (program_in file) (place r.function i) ≡ Some (Build (w / 256 % 256))
       cur = at_build file ready.parsed m cells stack r i ws ok word e
 
       is : constructor_arity file (w / 256 % 256) ≡ arity (program_in file) (w / 256 % 256)
@@ -225,7 +225,7 @@ module _ (file : List ℕ) (m : Limits) (cells stack : List ℕ) (r : Registers)
           (omega (arith, arguments_length cells (cell_of (top_reference stack r)) (constructor_arity file (w / 256 % 256))))
 
       cur : (j : ℕ) (vs : List Frame) → Standing file m cells stack r j vs
-          → current (program_in file) (place r.function j) ≡ some (Branch (w / 256 % 256) (w / 65536))
+          → current (program_in file) (place r.function j) ≡ Some (Branch (w / 256 % 256) (w / 65536))
       cur j vs on = at_branch file ready.parsed m cells stack r j vs on word e
 
       is : label_in cells (top_reference stack r) ≡ w / 256 % 256 → is_constant (top_reference stack r) ≡ false
@@ -258,9 +258,9 @@ module _ (file : List ℕ) (m : Limits) (cells stack : List ℕ) (r : Registers)
 
   resting_stepped : (g why : ℕ) → 0 < why → why < 5 → (why ≡ 3 → ⊥)
       → ((j : ℕ) (vs : List Frame) → Standing file m cells stack r j vs
-      → (why ≡ 1 → current (program_in file) (place r.function j) ≡ some (Call g))
-      × (why ≡ 2 → current (program_in file) (place r.function j) ≡ some Return)
-      × (why ≡ 4 → current (program_in file) (place r.function j) ≡ some Stop))
+      → (why ≡ 1 → current (program_in file) (place r.function j) ≡ Some (Call g))
+      × (why ≡ 2 → current (program_in file) (place r.function j) ≡ Some Return)
+      × (why ≡ 4 → current (program_in file) (place r.function j) ≡ Some Stop))
       → Stepped file m cells stack r cells stack (resting_at r g why)
   resting_stepped g why lo hi n at = stepped cells stack (resting_at r g why) (spared_none m cells stack) refl
       (λ budget j vs fits on.

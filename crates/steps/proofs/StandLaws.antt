@@ -4,7 +4,7 @@ use mathlib.Core.Path.{◌≡◌, refl, sym, ap, ap₂, ◌∙◌, subst}
 use mathlib.Core.Logic.{⊎_elim}
 use native.Mathlib.Nat.{eq-or-lt_of_le}
 use mathlib.Core.List.{List, [], ◌∷◌, ◌++◌, map}
-use mathlib.Core.Option.{Option, none, some}
+use Rattle.std.specs.Prelude.{Option, None, Some}
 use native.Mathlib.Omega.{arith}
 use lib.ListN.{length, get_or}
 use Rattle.rules.specs.Heap.{Heap, HeapFrame, HeapState, heap_state, frame_of, state_of, place_of, heap_step}
@@ -56,15 +56,15 @@ waiting_length stack (w ∷ ws) e = ap suc (waiting_length stack ws (e - w.heigh
 
 ---- Soundness
 
-after_next : (s : Program) (k : ℕ) (st : State) {a : State} → step s st ≡ some a → after s (suc k) st ≡ after s k a
+after_next : (s : Program) (k : ℕ) (st : State) {a : State} → step s st ≡ Some a → after s (suc k) st ≡ after s k a
 unfolding after
 after_next s k st e = rw e
 
-pub after_none : (s : Program) (st : State) → after s 0 st ≡ some st
+pub after_none : (s : Program) (st : State) → after s 0 st ≡ Some st
 unfolding after
 after_none s st = refl
 
-sound_later : (s : Program) (st : State) {a : State} → step s st ≡ some a → SoundFrom s st → SoundFrom s a
+sound_later : (s : Program) (st : State) {a : State} → step s st ≡ Some a → SoundFrom s st → SoundFrom s a
 sound_later s st e x = record {
   safe = λ k r q. x.safe (suc k) r (after_next s k st e ∙ q);
   bounded = λ k r v q. x.bounded (suc k) r v (after_next s k st e ∙ q);
@@ -72,20 +72,20 @@ sound_later s st e x = record {
 
 -- a frame of a sound state has an instruction
 pub sound_current : (s : Program) (others : State) (fr : Framed) → SoundFrom s (fr ∷ others) → (ins : Instruction)
-    × (current s fr ≡ some ins)
+    × (current s fr ≡ Some ins)
 unfolding result_of end_of step
 sound_current s others fr ok = go (current s fr) refl
   where
-    ends : (os : State) → current s fr ≡ none → end_of s (fr ∷ os) ≡ none
-    ends [] e = let q : result_of s (fr ∷ []) ≡ none = rw e in rw (q, end_of)
+    ends : (os : State) → current s fr ≡ None → end_of s (fr ∷ os) ≡ None
+    ends [] e = let q : result_of s (fr ∷ []) ≡ None = rw e in rw (q, end_of)
     ends (w ∷ os) e = refl
 
-    stuck : current s fr ≡ none → step s (fr ∷ others) ≡ none
+    stuck : current s fr ≡ None → step s (fr ∷ others) ≡ None
     stuck e = rw e
 
-    go : (o : Option Instruction) → current s fr ≡ o → (ins : Instruction) × (current s fr ≡ some ins)
-    go none e = let x = ok.safe 0 (fr ∷ others) (after_none s (fr ∷ others)) (ends others e) in none_some (sym (stuck e) ∙ x.1)
-    go (some ins) e = (ins, e)
+    go : (o : Option Instruction) → current s fr ≡ o → (ins : Instruction) × (current s fr ≡ Some ins)
+    go None e = let x = ok.safe 0 (fr ∷ others) (after_none s (fr ∷ others)) (ends others e) in none_some (sym (stuck e) ∙ x.1)
+    go (Some ins) e = (ins, e)
 
 module _ (file : List ℕ) (m : Limits) (cells stack : List ℕ) (r : Registers) (i : ℕ) (ws : List Frame)
     (ok : Standing file m cells stack r i ws) where
@@ -96,20 +96,20 @@ module _ (file : List ℕ) (m : Limits) (cells stack : List ℕ) (r : Registers)
   here = state_in (program_in file) cells stack r i ws
 
   -- a state that does not end the run has a step
-  pub lives : end_on (program_in file) here.heap here.frames ≡ none → (next : HeapState) × (heap_step (program_in file) here ≡ some next)
+  pub lives : end_on (program_in file) here.heap here.frames ≡ None → (next : HeapState) × (heap_step (program_in file) here ≡ Some next)
   lives e =
       let x = ok.sound.safe 0 (state_of here) (after_none s (state_of here)) (end_alike s here.heap here.frames ∙ e) in
       let y = step_there s ok.few here ok.valid x.1 in
       (y.0, y.1)
 
   -- what is behind a step is sound
-  pub sound_next : (next : HeapState) → heap_step (program_in file) here ≡ some next → SoundFrom (program_in file) (state_of next)
+  pub sound_next : (next : HeapState) → heap_step (program_in file) here ≡ Some next → SoundFrom (program_in file) (state_of next)
   sound_next next e = sound_later s (state_of here) (heap_step_lem s ok.few here ok.valid ∙ ap (option_map state_of) e) ok.sound
 
   -- where the next state has one frame or more, its top frame has an instruction
-  pub current_next : {heap : Heap} {fr : HeapFrame} {others : List HeapFrame} → heap_step (program_in file) here ≡ some
+  pub current_next : {heap : Heap} {fr : HeapFrame} {others : List HeapFrame} → heap_step (program_in file) here ≡ Some
       (heap_state heap (fr ∷ others))
-      → (ins : Instruction) × (current (program_in file) (place_of fr) ≡ some ins)
+      → (ins : Instruction) × (current (program_in file) (place_of fr) ≡ Some ins)
   unfolding current
   current_next {heap} {fr} {others} e =
       sound_current s (map (frame_of heap) others) (frame_of heap fr) (sound_next (heap_state heap (fr ∷ others)) e)
@@ -134,11 +134,11 @@ unfolding heights_on
 top_heights s stack ws base g linked f i l n e = omega (arith, e, waiting_heights s stack ws base g linked)
 
 -- instructions are counted from 1
-pub current_first : (s : Program) (f i : ℕ) {ins : Instruction} → current s (place f i) ≡ some ins → 0 < i
+pub current_first : (s : Program) (f i : ℕ) {ins : Instruction} → current s (place f i) ≡ Some ins → 0 < i
 unfolding current
 current_first s f zero e = let b = bind_some (function s f) _ e in none_some b.2
 current_first s f (suc i) e = omega arith
 
-pub current_known : (s : Program) (f i : ℕ) {ins : Instruction} → current s (place f i) ≡ some ins → f < length s.functions
+pub current_known : (s : Program) (f i : ℕ) {ins : Instruction} → current s (place f i) ≡ Some ins → f < length s.functions
 unfolding current
 current_known s f i e = let b = bind_some (function s f) _ e in at_less s.functions f b.1

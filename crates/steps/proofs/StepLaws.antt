@@ -2,7 +2,7 @@
 use Prim.Native.Nat.{ℕ, suc, ◌-◌, ◌≤◌, ◌<◌}
 use mathlib.Core.Path.{◌≡◌, refl, ap, ◌∙◌, subst}
 use mathlib.Core.List.{List}
-use mathlib.Core.Option.{none, some}
+use Rattle.std.specs.Prelude.{None, Some}
 use native.Mathlib.Omega.{arith}
 use native.Mathlib.Numerals.{add-one}
 use lib.ListN.{length}
@@ -57,8 +57,8 @@ module _ (file : List ℕ) (m : Limits) (budget : ℕ) (cells stack : List ℕ) 
 
   -- the step leads to a state that other registers and tables stand for
   pub took : (cells' stack' : List ℕ) (t : Registers) (i' : ℕ) (ws' : List Frame) → end_on (program_in file) here.heap here.frames ≡
-      none
-      → heap_step (program_in file) here ≡ some (state_in (program_in file) cells' stack' t i' ws') → Laid file m cells' t i' ws'
+      None
+      → heap_step (program_in file) here ≡ Some (state_in (program_in file) cells' stack' t i' ws') → Laid file m cells' t i' ws'
       → r.left ≡ suc t.left → LeadsTo file m budget cells stack r i ws cells' stack' t i' ws'
   took cells' stack' t i' ws' ends e laid one = record {
     standing = record {
@@ -108,8 +108,8 @@ module _ (file : List ℕ) (m : Limits) (budget : ℕ) (cells stack : List ℕ) 
 
   ---- The tables refuse the state behind the step
 
-  module _ (left : 0 < r.left) (next : HeapState) (ends : end_on (program_in file) here.heap here.frames ≡ none)
-      (e : heap_step (program_in file) here ≡ some next) where
+  module _ (left : 0 < r.left) (next : HeapState) (ends : end_on (program_in file) here.heap here.frames ≡ None)
+      (e : heap_step (program_in file) here ≡ Some next) where
     abbrev Refuses : ℕ → Type 0
     Refuses n = answers_on (program_in file) m budget cells stack r i ws
         ≡ answer (refused_with (refusal n r.function i)) (budget - r.left)
@@ -146,10 +146,10 @@ module _ (file : List ℕ) (m : Limits) (budget : ℕ) (cells stack : List ℕ) 
 
   -- the other reasons for a rest
   pub rests_at : (g why : ℕ) → why < 5
-      → (why ≡ 1 → (0 < r.left) × (current (program_in file) (place r.function i) ≡ some (Call g)))
-      → (why ≡ 2 → (0 < r.left) × (current (program_in file) (place r.function i) ≡ some Return))
-      → (why ≡ 3 → (length ws ≡ 0) × (current (program_in file) (place r.function i) ≡ some Return))
-      → (why ≡ 4 → (0 < r.left) × (current (program_in file) (place r.function i) ≡ some Stop))
+      → (why ≡ 1 → (0 < r.left) × (current (program_in file) (place r.function i) ≡ Some (Call g)))
+      → (why ≡ 2 → (0 < r.left) × (current (program_in file) (place r.function i) ≡ Some Return))
+      → (why ≡ 3 → (length ws ≡ 0) × (current (program_in file) (place r.function i) ≡ Some Return))
+      → (why ≡ 4 → (0 < r.left) × (current (program_in file) (place r.function i) ≡ Some Stop))
       → Rests file m budget cells stack (resting_at r g why) i ws
   rests_at g why low calls returns result stops = record {
     calls = calls;

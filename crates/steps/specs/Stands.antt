@@ -1,6 +1,6 @@
 -- How registers and lent tables stand for a state of the machine over heap cells.
 use Rattle.std.specs.Prelude.{◌≡◌, List, [], ◌∷◌, ℕ, ◌-◌, ◌≤◌, ◌<◌, length}
-use Rattle.std.proofs.Math.Option.{none, some}
+use Rattle.std.specs.Prelude.{None, Some}
 use Rattle.rules.specs.Heap.{HeapFrame, HeapState, heap_state, state_of, Valid}
 use Rattle.rules.specs.HeapRun.{continued_on}
 use Rattle.rules.specs.Machine.{Value, State, current, step, after, result_of}
@@ -37,13 +37,13 @@ unfoldable pub Linked : Program → List Frame → ℕ → ℕ → Type 0
 Linked s [] e g = e ≡ 0
 Linked s (w ∷ ws) e g =
     (w.height ≤ e) × (inputs s g ≤ w.height) × (g < length s.functions)
-    × (current s (place w.function w.instruction) ≡ some (Call g)) × Linked s ws (e - w.height) w.function
+    × (current s (place w.function w.instruction) ≡ Some (Call g)) × Linked s ws (e - w.height) w.function
 
 -- what soundness gives of a state: nothing reached from it is stuck, and a result has a length of 32 bits
 pub record SoundFrom (s : Program) (st : State) : Type 0 where
-  pub safe : (n : ℕ) (reached : State) → after s n st ≡ some reached → end_of s reached ≡ none → (next : State)
-      × (step s reached ≡ some next)
-  pub bounded : (n : ℕ) (reached : State) (v : Value) → after s n st ≡ some reached → result_of s reached ≡ some v
+  pub safe : (n : ℕ) (reached : State) → after s n st ≡ Some reached → end_of s reached ≡ None → (next : State)
+      × (step s reached ≡ Some next)
+  pub bounded : (n : ℕ) (reached : State) (v : Value) → after s n st ≡ Some reached → result_of s reached ≡ Some v
       → length (written v) < 4294967296
 
 -- the tables that the top frame works on have room for the limits

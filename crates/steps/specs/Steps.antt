@@ -1,6 +1,6 @@
 -- What the step functions do to registers and tables.
 use Rattle.std.specs.Prelude.{◌≡◌, List, true, false, ℕ, ◌+◌, ◌-◌, ◌≤◌, ◌<◌, length, get_or, set}
-use Rattle.std.proofs.Math.Option.{some}
+use Rattle.std.specs.Prelude.{Some}
 use Rattle.rules.specs.Base.{refusal}
 use Rattle.rules.specs.Heap.{is_constant, number_of}
 use Rattle.rules.specs.Machine.{current}
@@ -115,10 +115,10 @@ pub data Branches (m : Limits) (cells stack : List ℕ) (r : Registers) (next c 
 ---- Why a frame rests: 0 it goes on, 1 it calls, 2 it returns, 3 it has the result, 4 it stops, and 14 to 17 as document 01 numbers them
 
 pub record Rests (file : List ℕ) (m : Limits) (budget : ℕ) (cells stack : List ℕ) (r : Registers) (i : ℕ) (ws : List Frame) : Type 0 where
-  pub calls : r.why ≡ 1 → (0 < r.left) × (current (program_in file) (place r.function i) ≡ some (Call r.callee))
-  pub returns : r.why ≡ 2 → (0 < r.left) × (current (program_in file) (place r.function i) ≡ some Return)
-  pub result : r.why ≡ 3 → (length ws ≡ 0) × (current (program_in file) (place r.function i) ≡ some Return)
-  pub stops : r.why ≡ 4 → (0 < r.left) × (current (program_in file) (place r.function i) ≡ some Stop)
+  pub calls : r.why ≡ 1 → (0 < r.left) × (current (program_in file) (place r.function i) ≡ Some (Call r.callee))
+  pub returns : r.why ≡ 2 → (0 < r.left) × (current (program_in file) (place r.function i) ≡ Some Return)
+  pub result : r.why ≡ 3 → (length ws ≡ 0) × (current (program_in file) (place r.function i) ≡ Some Return)
+  pub stops : r.why ≡ 4 → (0 < r.left) × (current (program_in file) (place r.function i) ≡ Some Stop)
   pub spent : r.why ≡ 14 → r.left ≡ 0
   pub short : 4 < r.why → (r.why ≡ 14 → ⊥) → (15 ≤ r.why) × (r.why ≤ 17)
       × (answers_on (program_in file) m budget cells stack r i ws

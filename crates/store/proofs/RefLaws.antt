@@ -2,10 +2,10 @@
 use Prim.Native.Nat.{ℕ, zero, suc, ◌+◌, ◌-◌, ◌≤◌, ◌<◌}
 use mathlib.Core.Path.{◌≡◌, refl, sym, ap, ap₂, ◌∙◌}
 use mathlib.Core.List.{List, [], ◌∷◌, ◌++◌}
-use mathlib.Core.Option.{some}
+use Rattle.std.specs.Prelude.{Some, slice_get}
 use native.Mathlib.Omega.{arith}
 use native.Mathlib.Nat.{add-zero, add-suc, suc-add}
-use lib.ListN.{length, get_or, set, get_elem?, length-append, length-set}
+use lib.ListN.{length, get_or, set, length-append, length-set}
 use lib.Seq.{take-append_seam, drop-append_seam, get_or-set_same, get_or-set_other}
 use borrow.Author.Tests.{le-leb}
 use Rattle.rules.specs.Lists.{All, ◌l∷◌}
@@ -40,7 +40,7 @@ pub refs_end : (l : List ℕ) (a n : ℕ) → refs l a (n + 1) ≡ refs l a n ++
 unfolding refs
 refs_end l a n = refs_append l a n 1
 
-refs_get : (l : List ℕ) (a n k : ℕ) {x : ℕ} → get_elem? (refs l a n) k ≡ some x → (k < n) × (x ≡ get_or l (a + k) 0)
+refs_get : (l : List ℕ) (a n k : ℕ) {x : ℕ} → slice_get (refs l a n) k ≡ Some x → (k < n) × (x ≡ get_or l (a + k) 0)
 unfolding refs
 refs_get l a zero k e = none_some e
 refs_get l a (suc n) zero {x} e = (omega arith, rw add-zero (sym (some_inj e)))
@@ -49,17 +49,17 @@ refs_get l a (suc n) (suc k) e =
     let d : a + suc k ≡ suc a + k = omega arith in
     (omega (arith, ih.0), rw d ih.1)
 
-pub refs_slot : (l : List ℕ) (at n a : ℕ) {x : ℕ} → slot a (refs l at n) ≡ some x → (0 < a) × (a ≤ n) × (x ≡ get_or l (at + a - 1) 0)
+pub refs_slot : (l : List ℕ) (at n a : ℕ) {x : ℕ} → slot a (refs l at n) ≡ Some x → (0 < a) × (a ≤ n) × (x ≡ get_or l (at + a - 1) 0)
 refs_slot l at n zero e = none_some e
 refs_slot l at n (suc a) e =
     let h = refs_get l at n a e in
     let d : at + suc a - 1 ≡ at + a = omega arith in
     (omega arith, omega (arith, h.0), rw d h.1)
 
-pub refs_split_few : (l : List ℕ) (a n k : ℕ) {p : List ℕ × List ℕ} → split k (refs l a n) ≡ some p → k ≤ n
+pub refs_split_few : (l : List ℕ) (a n k : ℕ) {p : List ℕ × List ℕ} → split k (refs l a n) ≡ Some p → k ≤ n
 refs_split_few l a n k e = omega (arith, (split_parts k (refs l a n) e).0, length_refs l a n)
 
-pub refs_split : (l : List ℕ) (a n k : ℕ) → k ≤ n → split k (refs l a n) ≡ some (refs l a (n - k), refs l (a + (n - k)) k)
+pub refs_split : (l : List ℕ) (a n k : ℕ) → k ≤ n → split k (refs l a n) ≡ Some (refs l a (n - k), refs l (a + (n - k)) k)
 unfolding split
 refs_split l a n k h =
     let len = length_refs l a n in
@@ -69,11 +69,11 @@ refs_split l a n k h =
     simp (le-leb k (length (refs l a n)) (omega (arith, len)))
     (rw m (rw parts (rw (take-append_seam, drop-append_seam))))
 
-pub refs_top : (l : List ℕ) (a n : ℕ) → 1 ≤ n → top (refs l a n) ≡ some (get_or l (a + n - 1) 0)
+pub refs_top : (l : List ℕ) (a n : ℕ) → 1 ≤ n → top (refs l a n) ≡ Some (get_or l (a + n - 1) 0)
 unfolding refs
 refs_top l a n h =
     let e : a + (n - 1) ≡ a + n - 1 = omega arith in
-    rw (refs_split l a n 1 h) (ap (λ (i : ℕ). some (get_or l i 0)) e)
+    rw (refs_split l a n 1 h) (ap (λ (i : ℕ). Some (get_or l i 0)) e)
 
 pub refs_all : {P : ℕ → Type 0} (l : List ℕ) (a n : ℕ) → All P (refs l a n) → (j : ℕ) → j < n → P (get_or l (a + j) 0)
 unfolding refs

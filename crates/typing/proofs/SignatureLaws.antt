@@ -2,7 +2,7 @@
 -- one rule over a signature.
 use mathlib.Core.Path.{◌≡◌, refl, ap, ◌∙◌}
 use mathlib.Core.List.{List, [], ◌++◌}
-use mathlib.Core.Option.{Option, none, some}
+use Rattle.std.specs.Prelude.{Option, None, Some}
 use mathlib.Core.Bool.{true}
 use Prim.Native.Nat.{ℕ, ◌≤◌, ◌<◌}
 use native.Mathlib.Omega.{arith}
@@ -31,29 +31,29 @@ use Rattle.program.proofs.LayoutLaws.{constructors_count, functions_count, const
 ---- What has a number
 
 module _ {file : List ℕ} {h : Header} (o : Headed file h) where
-  constructor_unknown : (c : ℕ) → h.constructors ≤ c → constructor (program_in file) c ≡ none
+  constructor_unknown : (c : ℕ) → h.constructors ≤ c → constructor (program_in file) c ≡ None
   unfolding program_of
   constructor_unknown c l =
       numbered_past (λ c. constructor_of (constructor_at (payload file) (constructor_offset c))) (byte_at (payload file) 2) 0 c
       (omega (arith, constructors_count o))
 
   constructor_known : (c : ℕ) → c < h.constructors
-      → constructor (program_in file) c ≡ some (constructor_of (constructor_at (payload file) (constructor_offset c)))
+      → constructor (program_in file) c ≡ Some (constructor_of (constructor_at (payload file) (constructor_offset c)))
   unfolding program_of
   constructor_known c l =
       numbered_at (λ c. constructor_of (constructor_at (payload file) (constructor_offset c))) (byte_at (payload file) 2) 0 c
       (omega (arith, constructors_count o))
-      ∙ ap (λ (x : ℕ). some (constructor_of (constructor_at (payload file) (constructor_offset x)))) (zero-add c)
+      ∙ ap (λ (x : ℕ). Some (constructor_of (constructor_at (payload file) (constructor_offset x)))) (zero-add c)
 
-  function_unknown : (g : ℕ) → h.functions ≤ g → function (program_in file) g ≡ none
+  function_unknown : (g : ℕ) → h.functions ≤ g → function (program_in file) g ≡ None
   unfolding program_of
   function_unknown g l = numbered_past (function_in file) (byte_at (payload file) 3) 0 g (omega (arith, functions_count o))
 
-  function_known : (g : ℕ) → g < h.functions → function (program_in file) g ≡ some (function_in file g)
+  function_known : (g : ℕ) → g < h.functions → function (program_in file) g ≡ Some (function_in file g)
   unfolding program_of
   function_known g l =
       numbered_at (function_in file) (byte_at (payload file) 3) 0 g (omega (arith, functions_count o))
-      ∙ ap (λ (x : ℕ). some (function_in file x)) (zero-add g)
+      ∙ ap (λ (x : ℕ). Some (function_in file x)) (zero-add g)
 
   -- the flow of a function, where that of all has passed
   flow_passed : flow_right (program_in file) ≡ passed → (g : ℕ) → g < h.functions → flow_of g (function_in file g) ≡ passed
@@ -62,14 +62,14 @@ module _ {file : List ℕ} {h : Header} (o : Headed file h) where
 
 ---- What a lookup finds
 
-finds_none : {o : Option Signature} → o ≡ none → Finds o not_found
+finds_none : {o : Option Signature} → o ≡ None → Finds o not_found
 finds_none e = record {
   unknown = λ _. e;
   known = λ q. let z : ◌≡◌ {A = ℕ} 0 1 = cc in absurd (omega arith);
   few = omega arith;
 }
 
-finds_some : {o : Option Signature} {d : Declaration} → o ≡ some (arguments_of d, d.result) → d.arity ≤ 4
+finds_some : {o : Option Signature} {d : Declaration} → o ≡ Some (arguments_of d, d.result) → d.arity ≤ 4
     → Finds o (record { known = true; signature = d })
 finds_some e few = record { unknown = λ q. let z : ◌≡◌ {A = ℕ} 0 1 = cc in absurd (omega arith); known = λ _. e; few = few }
 
@@ -109,8 +109,8 @@ module _ (s : Program) (n : ℕ) (f : Function) (i : ℕ) (stack : List ℕ) whe
     where
       go : (o : Option Constructor) → (or_refuse o (refusal 8 n i) >>= (λ k. applied s n f i k.arguments k.result stack))
           ≡ applied_to s n f i (constructor_signature o) stack
-      go none = refl
-      go (some k) = refl
+      go None = refl
+      go (Some k) = refl
 
   pub call_rule : (g : ℕ) → type_rule s n f i (Call g) stack ≡ applied_to s n f i (function_signature (function s g)) stack
   unfolding type_rule
@@ -118,8 +118,8 @@ module _ (s : Program) (n : ℕ) (f : Function) (i : ℕ) (stack : List ℕ) whe
     where
       go : (o : Option Function) → (or_refuse o (refusal 8 n i) >>= (λ k. applied s n f i k.parameters k.result stack))
           ≡ applied_to s n f i (function_signature o) stack
-      go none = refl
-      go (some k) = refl
+      go None = refl
+      go (Some k) = refl
 
   pub branch_rule : (c b : ℕ) → type_rule s n f i (Branch c b) stack ≡ branched_to s n f i (constructor_signature (constructor s c)) b stack
   unfolding type_rule
@@ -127,8 +127,8 @@ module _ (s : Program) (n : ℕ) (f : Function) (i : ℕ) (stack : List ℕ) whe
     where
       go : (o : Option Constructor) → (or_refuse o (refusal 8 n i) >>= (λ k. branched s n f i k.result k.arguments b stack))
           ≡ branched_to s n f i (constructor_signature o) b stack
-      go none = refl
-      go (some k) = refl
+      go None = refl
+      go (Some k) = refl
 
 ---- The signature of the function itself
 

@@ -1,7 +1,7 @@
 -- The type pass of one function, whose flow is right: every instruction has a state, and its slot holds it.
 use mathlib.Core.Path.{◌≡◌, refl, sym, ap, ◌∙◌}
 use mathlib.Core.List.{List, [], ◌∷◌, ◌++◌}
-use mathlib.Core.Option.{Option, some}
+use Rattle.std.specs.Prelude.{Option, Some}
 use Prim.Native.Nat.{ℕ, zero, suc, ◌+◌, ◌≤◌, ◌<◌}
 use native.Mathlib.Omega.{arith}
 use native.Mathlib.Numerals.{add-one}
@@ -32,7 +32,7 @@ use mathlib.Core.Bool.{true, false}
 use Rattle.rules.proofs.ListLaws.{none_some, some_inj, any_append_left, any_append_right}
 
 -- a branch's else target lies ahead
-aims : {code : List Instruction} → Tree code → (i : ℕ) (ins : Instruction) → slot i code ≡ some ins → Aims ins
+aims : {code : List Instruction} → Tree code → (i : ℕ) (ins : Instruction) → slot i code ≡ Some ins → Aims ins
 aims t i (Load a) e = tt
 aims t i (Build c) e = tt
 aims t i (Call g) e = tt
@@ -95,18 +95,18 @@ module _ (bytes : List ℕ) (at g : ℕ) (c : Code) where
     inside : suc k ≤ length fn.code
     inside = omega (arith, code_length s.code)
 
-    here_slot : slot (suc k) fn.code ≡ some (code_at bytes c.base k)
+    here_slot : slot (suc k) fn.code ≡ Some (code_at bytes c.base k)
     here_slot = code_slot s.code k h
 
     -- every instruction so far has passed, so this one has a state
-    passes : (i : ℕ) (ins : Instruction) → i < suc k → slot i fn.code ≡ some ins → (ts : List ℕ) → types_here i ≡ some ts
+    passes : (i : ℕ) (ins : Instruction) → i < suc k → slot i fn.code ≡ Some ins → (ts : List ℕ) → types_here i ≡ Some ts
         → (M : List (Arrow (List ℕ))) × (typing i ins ts ≡ found M)
     passes zero ins l e ts q = none_some e
     passes (suc j) ins l e ts q =
         let is : code_at bytes c.base j ≡ ins = some_inj (sym (code_slot s.code j (omega arith)) ∙ e) in
         judge_found typing (root_at 1 fn.parameters) fn.code (suc j) ins ts (rw is at (s.passing.before j (omega arith))) q
 
-    here_state : (ts : List ℕ) × (types_here (suc k) ≡ some ts)
+    here_state : (ts : List ℕ) × (types_here (suc k) ≡ Some ts)
     here_state =
         state_reached typing fn.parameters fn.code s.flow.tree (type_all (program_of bytes) g fn) (suc k) passes (suc k)
         (omega arith) (omega arith) inside
@@ -115,8 +115,8 @@ module _ (bytes : List ℕ) (at g : ℕ) (c : Code) where
     here_holds : Holds now here_state.0
     here_holds = walking_here typing fn.parameters fn.code Holds no_stack s.walking inside here_state.0 here_state.1
 
-    here_is : types_here (suc k) ≡ some (stack_of now)
-    here_is = here_state.1 ∙ ap some (sym here_holds.is)
+    here_is : types_here (suc k) ≡ Some (stack_of now)
+    here_is = here_state.1 ∙ ap Some (sym here_holds.is)
 
     pub here_sound : InBounds (get_or w (k + 1) no_stack)
     here_sound = rw add-one here_holds.sound

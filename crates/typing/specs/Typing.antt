@@ -1,6 +1,6 @@
 -- The signatures that instructions name, and what the type pass asks of an instruction.
 use Rattle.std.specs.Prelude.{[], ◌∷◌, false, ◌≤◌}
-use Rattle.std.proofs.Math.Option.{Option, none, some}
+use Rattle.std.specs.Prelude.{Option, None, Some}
 use Rattle.rules.specs.declared.records.Instruction.{Instruction}
 use Rattle.rules.specs.declared.records.Instruction.TheVariants.{Load, Build, Call, Branch, Return, Stop}
 use Rattle.rules.specs.Program.{Constructor, Function}
@@ -10,12 +10,12 @@ use Rattle.operands.specs.Operands.{Signature}
 ---- The signature that an instruction names
 
 abbrev pub constructor_signature : Option Constructor → Option Signature
-constructor_signature none = none
-constructor_signature (some k) = some (k.arguments, k.result)
+constructor_signature None = None
+constructor_signature (Some k) = Some (k.arguments, k.result)
 
 abbrev pub function_signature : Option Function → Option Signature
-function_signature none = none
-function_signature (some k) = some (k.parameters, k.result)
+function_signature None = None
+function_signature (Some k) = Some (k.parameters, k.result)
 
 abbrev pub not_found : Lookup
 not_found = record { known = false; signature = record { result = 0; arity = 0; types = 0 ∷ 0 ∷ 0 ∷ 0 ∷ [] } }

@@ -1,6 +1,6 @@
 // Number 8: the types of the stack along the paths of a function's code.
 ghost use Rattle.std.specs.Prelude.{◌≡◌, ◌<◌};
-ghost use Rattle.rules.specs.Answers.{told_check};
+ghost use Rattle.rules.specs.Answers.{told};
 ghost use Rattle.rules.specs.Records.{program_in, function_in};
 ghost use Rattle.rules.specs.Types.{types_of, types_right};
 ghost use Rattle.rules.specs.Established.{Flowing, LaidOut};
@@ -12,7 +12,7 @@ use rules::records::Header;
 // The types of function g: a slot for each instruction has the stack that arrives there, and slot 0 what goes nowhere.
 fn types_of(file: &[u8], header: Header, heads: &[usize; 32], g: usize) -> Checked
     requires { Flowing file.now × LaidOut file.now header heads.now × (g < header.functions) }
-    ensures { told_check result ≡ types_of (program_in file.now) g (function_in file.now g) }
+    ensures { told result ≡ types_of (program_in file.now) g (function_in file.now g) }
 {
     let at = heads[g];
     let signature = readers::declaration(file, at);
@@ -46,7 +46,7 @@ fn types_of(file: &[u8], header: Header, heads: &[usize; 32], g: usize) -> Check
 // For the crates above: number 8 over all functions, where 7 has passed.
 pub fn types(file: &[u8], header: Header, heads: &[usize; 32]) -> Checked
     requires { Flowing file.now × LaidOut file.now header heads.now }
-    ensures { told_check result ≡ types_right (program_in file.now) }
+    ensures { told result ≡ types_right (program_in file.now) }
 {
     let m = header.functions as usize;
     let mut g: usize = 0;

@@ -18,7 +18,7 @@ use Rattle.rules.specs.Flow.{flow_right}
 use Rattle.rules.specs.Types.{types_right}
 use Rattle.rules.specs.Shapes.{sizes_right}
 use Rattle.rules.specs.Check.{checked, counts_of}
-use Rattle.rules.specs.Answers.{refusal_of, told_check, told}
+use Rattle.rules.specs.Answers.{refusal_of, told}
 use Rattle.rules.proofs.NumberedLaws.{numbered_length}
 use Rattle.rules.proofs.CheckLaws.{refused_blocks, refused_records, refused_declarations, refused_bounds, refused_flow, refused_types}
 use Rattle.rules.proofs.CheckLaws.{refused_sizes, accepted_checked, verdict_refused, verdict_accepted}
@@ -34,11 +34,11 @@ never e w = let z : ◌≡◌ {A = ℕ} 0 1 = cc in absurd (cc_false z)
     cc_false z = omega arith
 
 -- what a pass that refuses says
-told_refused : {c : Checked} {t : Check} {r : Reason} → told_check c ≡ t → c ≡ rule.Refused r → t ≡ refused (refusal_of r)
-told_refused says e = sym says ∙ ap told_check e
+told_refused : {c : Checked} {t : Check} {r : Reason} → told c ≡ t → c ≡ rule.Refused r → t ≡ refused (refusal_of r)
+told_refused says e = sym says ∙ ap told e
 
-told_right : {c : Checked} {t : Check} → told_check c ≡ t → c ≡ rule.Right → t ≡ passed
-told_right says e = sym says ∙ ap told_check e
+told_right : {c : Checked} {t : Check} → told c ≡ t → c ≡ rule.Right → t ≡ passed
+told_right says e = sym says ∙ ap told e
 
 ---- Blocks
 
@@ -60,14 +60,14 @@ module _ {file : List ℕ} {n : ℕ} (o : Measured file n) {c : Checked} {layout
   }
 
 module _ {file : List ℕ} {layout : Layout} (l : LaidOut file layout.header layout.heads) {d : Checked}
-    (declared : told_check d ≡ declarations_right (program_in file)) where
+    (declared : told d ≡ declarations_right (program_in file)) where
   pub declarations_refused : (r : Reason) → d ≡ rule.Refused r → DeclaredRight file (rule.Refused r) layout
   declarations_refused r e = record {
     refuses = λ r' w. refused_declarations l.headed.parsed (told_refused declared (e ∙ w));
     declares = λ w. never refl w;
   }
 
-  pub bounds_told : d ≡ rule.Right → {b : Checked} → told_check b ≡ bounds_right (program_in file) → DeclaredRight file b layout
+  pub bounds_told : d ≡ rule.Right → {b : Checked} → told b ≡ bounds_right (program_in file) → DeclaredRight file b layout
   bounds_told e {b} says = record {
     refuses = λ r w. refused_bounds l.headed.parsed (told_right declared e) (told_refused says w);
     declares = λ w. (record { parsed = l.headed.parsed; declarations = told_right declared e; bounds = told_right says w }, l);
@@ -75,21 +75,21 @@ module _ {file : List ℕ} {layout : Layout} (l : LaidOut file layout.header lay
 
 ---- 7, 8, and 10 and 9
 
-module _ {file : List ℕ} (d : Declared file) {c : Checked} (says : told_check c ≡ flow_right (program_in file)) where
+module _ {file : List ℕ} (d : Declared file) {c : Checked} (says : told c ≡ flow_right (program_in file)) where
   pub flow_refused : (r : Reason) → c ≡ rule.Refused r → CodedRight file (rule.Refused r)
   flow_refused r e = record { refuses = λ r' w. refused_flow d (told_refused says (e ∙ w)); accepts = λ w. never refl w }
 
   pub flow_right_lem : c ≡ rule.Right → Flowing file
   flow_right_lem e = record { declared = d; flow = told_right says e }
 
-module _ {file : List ℕ} (f : Flowing file) {c : Checked} (says : told_check c ≡ types_right (program_in file)) where
+module _ {file : List ℕ} (f : Flowing file) {c : Checked} (says : told c ≡ types_right (program_in file)) where
   pub types_refused : (r : Reason) → c ≡ rule.Refused r → CodedRight file (rule.Refused r)
   types_refused r e = record { refuses = λ r' w. refused_types f (told_refused says (e ∙ w)); accepts = λ w. never refl w }
 
   pub types_right_lem : c ≡ rule.Right → Typechecked file
   types_right_lem e = record { flowing = f; types = told_right says e }
 
-pub sizes_told : {file : List ℕ} → Typechecked file → {c : Checked} → told_check c ≡ sizes_right (program_in file) → CodedRight file c
+pub sizes_told : {file : List ℕ} → Typechecked file → {c : Checked} → told c ≡ sizes_right (program_in file) → CodedRight file c
 sizes_told t says = record {
   refuses = λ r w. refused_sizes t (told_refused says w);
   accepts = λ w. record { typechecked = t; sizes = told_right says w };

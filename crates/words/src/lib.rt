@@ -2,7 +2,7 @@
 #![tactic(auto)]
 
 ghost use Rattle.std.specs.Prelude.{◌≡◌, ◌+◌, ◌≤◌, ◌<◌, length, take, get_or};
-ghost use Rattle.rules.specs.Answers.{told, told_length, told_run, check_words, length_words, run_words, words_into};
+ghost use Rattle.rules.specs.Answers.{told, told_run, check_words, length_words, run_words, words_into};
 ghost use Rattle.rules.specs.Container.{bytes4};
 ghost use Rattle.rules.specs.Memory.{overwritten};
 ghost use Rattle.words.specs.Words.{RefusedWords};
@@ -35,7 +35,7 @@ pub fn check_words(verdict: Verdict) -> [usize; 5]
 
 // For the crates above: pack and unpack, in four words.
 pub fn length_words(length: Length) -> [usize; 5]
-    ensures { (take 4 result ≡ length_words (told_length length)) × (get_or result 0 0 < 256) }
+    ensures { (take 4 result ≡ length_words (told length)) × (get_or result 0 0 < 256) }
 {
     match length {
         Length::Bytes(n) => [0, 0, 0, n, 0],

@@ -1,7 +1,7 @@
 -- `lines::lines` meets its contract: a wrong table, the first wrong line, then the room. Assumes nothing.
 use mathlib.Core.Path.{sym, ap, ◌∙◌}
 use lib.ListN.{length}
-use Rattle.rules.specs.Answers.{told_check}
+use Rattle.rules.specs.Answers.{told}
 use Rattle.rules.specs.Lines.{entries, text_lines, codes}
 use Rattle.rules.specs.Memory.{copied_into}
 use Rattle.rules.proofs.TriedLaws.{only_refused}
@@ -33,7 +33,7 @@ deliver-requires c =
     let es = entries a.table.now in
     let m = c.marks-marks.ensures in
     let f = all_scanned es c.marks-marks.result m a.text.now
-    (sym (ap told_check c.in-Right.is) ∙ c.scan-scanned.ensures es m) in
+    (sym (ap told c.in-Right.is) ∙ c.scan-scanned.ensures es m) in
     (f.0, f.2)
 
 pub returns-in-Right : goal.returns-in-Right
@@ -42,7 +42,7 @@ returns-in-Right c =
     let es = entries a.table.now in
     let m = c.marks-marks.ensures in
     let f = all_scanned es c.marks-marks.result m a.text.now
-    (sym (ap told_check c.in-Right.is) ∙ c.scan-scanned.ensures es m) in
+    (sym (ap told c.in-Right.is) ∙ c.scan-scanned.ensures es m) in
     let right = sym c.right.ensures ∙ c.if-not-right.false in
     let e = lines_found a.text.now a.table.now a.cons a.nil (length a.out.now) right c.if-cons-nil.false f.1 in
     rw e (c.deliver.ensures f.0 f.2)
@@ -52,7 +52,7 @@ unfolding copied_into
 returns-in-Refused c =
     let a = c.args in
     let es = entries a.table.now in
-    let refused = sym (ap told_check c.in-Refused.is) ∙ c.scan-scanned.ensures es c.marks-marks.ensures in
+    let refused = sym (ap told c.in-Refused.is) ∙ c.scan-scanned.ensures es c.marks-marks.ensures in
     let right = sym c.right.ensures ∙ c.if-not-right.false in
     let e = lines_refused a.text.now a.table.now a.cons a.nil (length a.out.now) right c.if-cons-nil.false
     (only_refused (codes es 1 (text_lines a.text.now)) (sym refused)) in

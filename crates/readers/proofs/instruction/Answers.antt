@@ -1,6 +1,6 @@
 -- `instruction` meets its contract: it is what `operation_of` says of the record, and a stop where that is nothing.
 use mathlib.Core.Path.{sym, ap, ◌∙◌}
-use mathlib.Core.Option.{Option}
+use Rattle.std.specs.Prelude.{Option}
 use Rattle.rules.specs.declared.records.Instruction.{Instruction}
 use Rattle.rules.specs.declared.records.Instruction.TheVariants.{Stop}
 use Rattle.rules.specs.Records.{or_else, instruction_of}

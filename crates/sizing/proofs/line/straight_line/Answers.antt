@@ -2,7 +2,7 @@
 -- entries are covered.
 use mathlib.Core.Path.{◌≡◌, refl, sym, ap, ◌∙◌}
 use mathlib.Core.List.{List}
-use mathlib.Core.Option.{some}
+use Rattle.std.specs.Prelude.{Some}
 use Prim.Native.Nat.{ℕ, ◌+◌, ◌-◌, ◌≤◌, ◌<◌}
 use native.Mathlib.Omega.{arith}
 use lib.ListN.{length}
@@ -43,7 +43,7 @@ place c =
 -- the line, and the instruction that is read
 is : (c : After-instruction-ins) → LineGoes c.args.file.now c.args.g c.args.start
     (shape_in (function_in c.args.file.now c.args.g) c.args.st) c.own_form-own.result c.loop-m.stack c.loop-m.height c.loop-m.j
-    × (slot c.loop-m.j (function_in c.args.file.now c.args.g).code ≡ some c.instruction-ins.result)
+    × (slot c.loop-m.j (function_in c.args.file.now c.args.g).code ≡ Some c.instruction-ins.result)
 is c =
     let l = goes c.requires c.own_form-own.ensures c.loop-height.invariant c.loop-height-test.false c.loop-m.invariant in (
       l,
@@ -51,12 +51,12 @@ is c =
           c.instruction_offset.ensures c.instruction-ins.result c.instruction-ins.ensures,
     )
 
-load_asks : (c : In-Load) → (slot c.loop-m.j (function_in c.args.file.now c.args.g).code ≡ some (Load c.in-Load.a))
+load_asks : (c : In-Load) → (slot c.loop-m.j (function_in c.args.file.now c.args.g).code ≡ Some (Load c.in-Load.a))
     × (1 ≤ c.in-Load.a) × (c.in-Load.a ≤ c.loop-m.height) × (c.loop-m.height < 16)
 load_asks c =
     let l = goes c.requires c.own_form-own.ensures c.loop-height.invariant c.loop-height-test.false c.loop-m.invariant in
     let e = at_instruction c.requires.walking c.requires.there l.at c.args.f.base c.requires.routine.base
-    c.instruction_offset.ensures c.instruction-ins.result c.instruction-ins.ensures ∙ ap some c.in-Load.is in
+    c.instruction_offset.ensures c.instruction-ins.result c.instruction-ins.ensures ∙ ap Some c.in-Load.is in
     let q = line_load_asks c.requires l c.in-Load.a e in
     (e, q.0, q.1, q.2)
 
