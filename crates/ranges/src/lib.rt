@@ -4,8 +4,7 @@
 ghost use Rattle.std.specs.Prelude.{◌≡◌, leb};
 ghost use Rattle.rules.specs.Base.{within, all};
 ghost use Rattle.rules.specs.Records.{past_zero, header_right, declaration_right, constructor_right, head_right, alternative_right};
-ghost use Rattle.rules.specs.Records.{operation};
-ghost use Rattle.rules.specs.Records.{is_some};
+ghost use Rattle.rules.specs.Records.{operation, is_some};
 
 use rules::records::{
     AlternativeRecord, ConstructorRecord, Declaration, HeadRecord, Header, InstructionRecord,
@@ -13,37 +12,20 @@ use rules::records::{
 
 mod operation; // operation.rt: the instruction that a record says
 
-pub use operation::{Fetched, operation_of};
+pub use operation::operation_of;
 
 // "Fields past the arity are zero".
 fn past_zero(n: u8, four: [u8; 4]) -> bool
     ensures { result ≡ past_zero n four }
 {
-    if n > 4 {
-        return false;
-    }
-    let mut k = n as usize;
-    while k < 4 {
-        if four[k] != 0 {
-            return false;
-        }
-        k += 1;
-    }
-    true
+    n <= 4 && four[usize::from(n)..].iter().all(|x| *x == 0)
 }
 
 // "four coefficients 0-15".
 fn all_small(four: [u8; 4]) -> bool
     ensures { result ≡ all (λ c. leb c 15) four }
 {
-    let mut k: usize = 0;
-    while k < 4 {
-        if four[k] > 15 {
-            return false;
-        }
-        k += 1;
-    }
-    true
+    four.iter().all(|c| *c <= 15)
 }
 
 fn between(lo: u16, hi: u16, x: u16) -> bool
@@ -53,15 +35,17 @@ fn between(lo: u16, hi: u16, x: u16) -> bool
 }
 
 // For the crates above, as are the next four: each is one record's test of number 4.
+#[tactic(auto, unfolding(rules::specs::Records::header_right))]
 pub fn header_right(h: Header) -> bool
     ensures { result ≡ header_right h }
 {
     (h.edition == 1)
-        & between(1, 32, h.types as u16)
-        & between(1, 64, h.constructors as u16)
-        & between(1, 32, h.functions as u16)
+        & between(1, 32, u16::from(h.types))
+        & between(1, 64, u16::from(h.constructors))
+        & between(1, 32, u16::from(h.functions))
 }
 
+#[tactic(auto, unfolding(rules::specs::Records::declaration_right))]
 fn declaration_right(d: Declaration) -> bool
     ensures { result ≡ declaration_right d }
 {
@@ -69,6 +53,7 @@ fn declaration_right(d: Declaration) -> bool
     past_zero(d.arity, types)
 }
 
+#[tactic(auto, unfolding(rules::specs::Records::constructor_right))]
 pub fn constructor_right(c: ConstructorRecord) -> bool
     ensures { result ≡ constructor_right c }
 {
@@ -76,17 +61,19 @@ pub fn constructor_right(c: ConstructorRecord) -> bool
     declaration_right(d) & (c.reserved == 0)
 }
 
+#[tactic(auto, unfolding(rules::specs::Records::head_right))]
 pub fn head_right(h: HeadRecord) -> bool
     ensures { result ≡ head_right h }
 {
     let d = h.declaration;
     declaration_right(d)
-        & between(1, 4, h.alternatives as u16)
+        & between(1, 4, u16::from(h.alternatives))
         & (h.reserved == 0)
         & between(1, 256, h.instructions)
 }
 
 // Of a function with n arguments.
+#[tactic(auto, unfolding(rules::specs::Records::alternative_right))]
 pub fn alternative_right(n: u8, r: AlternativeRecord) -> bool
     ensures { result ≡ alternative_right n r }
 {
@@ -97,9 +84,5 @@ pub fn alternative_right(n: u8, r: AlternativeRecord) -> bool
 pub fn instruction_right(r: InstructionRecord) -> bool
     ensures { result ≡ is_some (operation r) }
 {
-    let f = operation_of(r);
-    match f {
-        Fetched::Is(_) => true,
-        Fetched::Bad => false,
-    }
+    operation_of(r).is_some()
 }
