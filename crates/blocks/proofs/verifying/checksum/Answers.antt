@@ -1,5 +1,5 @@
 -- `blocks::verifying::checksum` meets its contract: the loop's sum is that of the bytes passed. Assumes nothing.
-use Rattle.std.proofs.Common.{◌≤◌, ◌*◌, ◌+◌, ℕ, get_or, ap, sym, refl, ◌∙◌, ◌≡◌, arith}
+use Rattle.std.proofs.Common.{◌+◌, refl, ◌≡◌, arith}
 use Rattle.rules.specs.Container.{weighed, checksum}
 use Rattle.rules.proofs.ContainerLaws.{check_next}
 use Rattle.rules.proofs.SumLaws.{term_bound}
@@ -22,7 +22,7 @@ loop-i-preserved c =
     let b = c.args.b.now in
     let t = term_bound c.from.result (i + 1) (omega (arith, c.type_inv.b i)) (omega arith) in record {
       few = omega arith;
-      same = rw (c.from.ensures, sym (check_next b i (omega arith)), c.loop-i.invariant.same) refl;
+      same = rw (c.from.ensures, check_next b i (omega arith), c.loop-i.invariant.same);
     }
 
 pub returns : goal.returns

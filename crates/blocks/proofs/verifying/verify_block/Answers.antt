@@ -19,9 +19,9 @@ summed : (c : Else-long_at-checksum) → eqb (long_at c.args.b.now 508)
     (checksum c.args.b.now) ≡ true
 summed c = eq-eqb _ _ (sym c.long_at.ensures ∙ c.if-long_at-checksum.false ∙ c.checksum.ensures)
 
-pub returns-then-block_right : goal.returns-then-block_right
-returns-then-block_right c = sym (block_tested _ _ _ (summed (goal.at.returns-then-block_right c).Else-long_at-checksum)
-    (sym c.block_right.ensures ∙ c.if-block_right.true))
+pub returns-then-not-block_right : goal.returns-then-not-block_right
+returns-then-not-block_right c = sym (block_tested _ _ _ (summed (goal.at.returns-then-not-block_right c).Else-long_at-checksum)
+    (sym c.block_right.ensures ∙ c.if-not-block_right.true))
 
 pub returns : goal.returns
-returns c = sym (block_tested _ _ _ (summed (goal.at.returns c).Else-long_at-checksum) (sym c.block_right.ensures ∙ c.if-block_right.false))
+returns c = sym (block_tested _ _ _ (summed (goal.at.returns c).Else-long_at-checksum) (sym c.block_right.ensures ∙ c.if-not-block_right.false))
