@@ -13,7 +13,7 @@ use fields::{
     alternative_from, constructor_from, declaration_from, head_from, header_from, instruction_from,
     left_in_block, place_of,
 };
-use ranges::{Fetched, operation_of};
+use ranges::operation_of;
 use rules::records::{
     AlternativeRecord, ConstructorRecord, Declaration, HeadRecord, Header, Instruction,
     InstructionRecord,
@@ -116,13 +116,10 @@ pub fn instruction_record(file: &[u8], at: usize) -> InstructionRecord
 }
 
 // For the crates above: the instruction at an offset, where its record is right.
+#[tactic(auto, unfolding(rules::specs::Records::instruction_of))]
 pub fn instruction(file: &[u8], at: usize) -> Instruction
     requires { Verified file.now × (at + 4 ≤ length (payload file.now)) }
     ensures { result ≡ instruction_of (instruction_at (payload file.now) at) }
 {
-    let f = operation_of(instruction_record(file, at));
-    match f {
-        Fetched::Is(i) => i,
-        Fetched::Bad => Instruction::Stop,
-    }
+    operation_of(instruction_record(file, at)).unwrap_or(Instruction::Stop)
 }
