@@ -8,8 +8,8 @@ ghost use Rattle.rules.specs.Established.{Measured};
 use super::reading::{long_at, word_at};
 use rules::answers::Reason;
 
-// The checksum of a block, as it is computed.
-fn checksum(b: &[u8]) -> u32
+// For the crates above, too: the checksum of a block.
+pub fn checksum(b: &[u8]) -> u32
     requires { 508 ≤ length b.now }
     ensures { result ≡ checksum b.now }
 {
