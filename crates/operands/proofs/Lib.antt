@@ -1,3 +1,1 @@
-pub mod StackLaws
 pub mod OperationLaws
-pub mod NamedLaws

@@ -1,57 +1,105 @@
 -- Laws of the type rules of one instruction, in the words of the code's answers.
-use mathlib.Core.Path.{◌≡◌, refl, ap, ◌∙◌}
-use mathlib.Core.List.{List, [], ◌∷◌, ◌++◌}
-use Rattle.std.specs.Prelude.{None, Some, slice_get}
-use mathlib.Core.Bool.{Bool, true, false}
-use Prim.Native.Nat.{ℕ, zero, suc, ◌+◌, ◌-◌, ◌≤◌, ◌<◌}
-use native.Mathlib.Omega.{arith}
-use native.Mathlib.Numerals.{add-one}
-use lib.ListN.{length, get_or, length-append}
-use lib.Seq.{get_or-take}
-use lib.Dec.{leb}
-use borrow.Author.Tests.{le-leb, lt-leb}
-use Rattle.rules.specs.declared.records.Instruction.TheVariants.{Load, Return, Stop}
-use Rattle.rules.specs.Base.{Tried, found, refused, refusal, ◌>>=◌}
+use Rattle.std.specs.Prelude.{if◌then◌else◌}
+use Rattle.std.proofs.Common.{◌≡◌, refl, sym, ap, ◌∙◌, List, [], ◌∷◌, ◌++◌, Bool, true, false, ◌&&◌, ℕ, zero, suc, ◌-◌, ◌≤◌, ◌<◌, length}
+use Rattle.std.proofs.Common.{take, drop, get_or, arith}
+use Rattle.std.specs.Prelude.{Option, None, Some, slice_get, leb, eqb}
+use Rattle.std.specs.Option.{option_map}
+use lib.Pointwise.{pointwise}
+use lib.Seq.{get_or-take, length-take-le}
+use borrow.Author.Tests.{eq-eqb, ne_eqb, eqb-true, eqb-false, leb-false}
+use Rattle.rules.specs.declared.records.Declaration.{Declaration}
+use Rattle.rules.specs.declared.records.Instruction.TheVariants.{Load, Return}
+use Rattle.rules.specs.Base.{Tried, found, refusal, require, or_refuse, ◌>>=◌}
 use Rattle.rules.specs.Program.{Function, Program}
-use Rattle.rules.specs.Stacks.{slot, push}
-use Rattle.rules.specs.Walk.{Arrow, arrow_to}
-use Rattle.rules.specs.Types.{below, types_on, type_rule}
+use Rattle.rules.specs.Records.{arguments_of}
+use Rattle.rules.specs.Stacks.{slot, split, push}
+use Rattle.rules.specs.Walk.{Arrow}
+use Rattle.rules.specs.Types.{same, below, types_on, type_rule}
 use Rattle.operands.specs.declared.stack.Stack.{Stack}
-use Rattle.operands.specs.declared.stack.Cut.{Cut}
 use Rattle.operands.specs.declared.operation.TypedStep.{TypedStep}
-use Rattle.operands.specs.Operands.{stack_of, InBounds, Holds, CutSays, typed_of, no_arrow, TypeSays, applied, branched}
-use Rattle.operands.proofs.StackLaws.{stack_length, cut_refused, cut_found}
+use Rattle.operands.specs.declared.operation.TypedStep.TheVariants.{Ends, Next, Both}
+use Rattle.operands.specs.Operands.{stack_of, grown, below_of, TypeSays, signature_of, applied_to, branched_to}
 
-module _ (n i : ℕ) (here : List ℕ) {r : TypedStep} where
-  pub type_wrong : {st : Stack} {rule : Tried (List (Arrow (List ℕ)))} → r ≡ no_arrow true st → InBounds st → rule ≡ refused (refusal 8 n i)
-      → TypeSays n i here r rule
-  unfolding typed_of
-  type_wrong e o h = rw (e, h) (record { says = refl; sound = o })
+---- What is below
 
-  type_ends : {st : Stack} {rule : Tried (List (Arrow (List ℕ)))} → r ≡ no_arrow false st → InBounds st → rule ≡ found []
-      → TypeSays n i here r rule
-  unfolding typed_of arrow_to
-  type_ends e o h = rw (e, h) (record { says = refl; sound = o })
+eqb_sym : (x y : ℕ) → eqb x y ≡ eqb y x
+eqb_sym x y = go (eqb x y) refl
+  where
+    go : (b : Bool) → eqb x y ≡ b → b ≡ eqb y x
+    go true e = sym (eq-eqb y x (sym (eqb-true x y e)))
+    go false e = sym (ne_eqb y x (λ q. eqb-false x y e (sym q)))
+
+same_types : (xs ys : List ℕ) → pointwise eqb ys xs ≡ same xs ys
+unfolding same
+same_types [] [] = refl
+same_types [] (y ∷ ys) = refl
+same_types (x ∷ xs) [] = refl
+same_types (x ∷ xs) (y ∷ ys) = rw (eqb_sym y x, same_types xs ys) refl
+
+same_long : (xs ys : List ℕ) → length xs < length ys → same xs ys ≡ false
+unfolding same
+same_long [] (y ∷ ys) h = refl
+same_long (x ∷ xs) (y ∷ ys) h = rw (same_long xs ys (omega arith)) (go (eqb x y))
+  where
+    go : (b : Bool) → (b && false) ≡ false
+    go true = refl
+    go false = refl
+same_long xs [] h = absurd (omega arith)
+
+module _ (s : Program) (n : ℕ) (f : Function) (i : ℕ) where
+  below_is : (types stack : List ℕ) → below s n f i types stack ≡ or_refuse (below_of types stack) (refusal 8 n i)
+  unfolding below split
+  below_is types stack =
+      rw (same_types (drop (length stack - length types) stack) types) (go (leb (length types) (length stack)) refl)
+    where
+      under : List ℕ
+      under = take (length stack - length types) stack
+
+      top : List ℕ
+      top = drop (length stack - length types) stack
+
+      ends : (u : Bool) → (require u (refusal 8 n i) >>= (λ _. found under))
+          ≡ or_refuse (if u then Some under else None) (refusal 8 n i)
+      ends true = refl
+      ends false = refl
+
+      go : (t : Bool) → leb (length types) (length stack) ≡ t
+          → (or_refuse (if t then Some (under, top) else None) (refusal 8 n i)
+          >>= (λ (parts : List ℕ × List ℕ). require (same parts.1 types) (refusal 8 n i) >>= (λ _. found parts.0)))
+          ≡ or_refuse (if same top types then Some under else None) (refusal 8 n i)
+      go true e = ends (same top types)
+      go false e =
+          let h = leb-false (length types) (length stack) e in
+          let k : length stack - length types ≡ 0 = omega arith in
+          rw (k, same_long stack types (omega arith)) refl
+
+  -- the arrow to the next instruction
+  abbrev next_with : List ℕ → Tried (List (Arrow (List ℕ)))
+  next_with types = found ((suc i, types) ∷ [])
+
+  types_on_is : (types : List ℕ) → types_on s n f i types ≡ (or_refuse (grown types) (refusal 8 n i) >>= next_with)
+  unfolding types_on
+  types_on_is types = go (leb (length types) 16)
+    where
+      go : (b : Bool) → (require b (refusal 8 n i) >>= (λ _. next_with types))
+          ≡ (or_refuse (if b then Some types else None) (refusal 8 n i) >>= next_with)
+      go true = refl
+      go false = refl
 
 ---- One type more
 
-module _ (s : Program) (n : ℕ) (f : Function) (i : ℕ) (here : List ℕ) {r : TypedStep} where
-  pub onward_full : {st : Stack} (t : ℕ) → r ≡ no_arrow true st → InBounds st → 16 ≤ st.height
-      → TypeSays n i here r (types_on s n f i (push (stack_of st) t))
-  unfolding types_on
-  onward_full {st} t e o h =
-      type_wrong n i here e o (rw (length-append (stack_of st) (t ∷ []), stack_length st o, lt-leb (st.height + 1) 16 (omega arith)))
+module _ (s : Program) (n : ℕ) (f : Function) (i : ℕ) (here : List ℕ) where
+  pub onward_full : {r : Option TypedStep} (types : List ℕ) → r ≡ None → None ≡ grown types → TypeSays n i here r (types_on s n f i types)
+  onward_full types e q = record { says = rw (e, types_on_is s n f i types, ← q) refl }
 
-module _ (s : Program) (n : ℕ) (f : Function) (i : ℕ) where
-  fits : {st : Stack} {l : List ℕ} → Holds st l → leb (length l) 16 ≡ true
-  fits {st} {l} o = le-leb (length l) 16 (omega (arith, ap length o.is, stack_length st o.sound, o.sound.within))
-
-  pub onward_goes : {st : Stack} (here l : List ℕ) → Holds st l
-      → TypeSays n i here (record { wrong = false; on = i + 1; to = 0; stack = st }) (types_on s n f i l)
-  unfolding typed_of types_on arrow_to
-  onward_goes here l o = record { says = rw (add-one i, fits o, o.is); sound = o.sound }
+  pub onward_goes : {st : Stack} (types : List ℕ) → Some (stack_of st) ≡ grown types
+      → TypeSays n i here (Some (Next st)) (types_on s n f i types)
+  onward_goes types q = record { says = rw (types_on_is s n f i types, ← q) refl }
 
 ---- Load
+
+pub stack_length : (st : Stack) → length (stack_of st) ≡ st.height
+stack_length st = length-take-le st.height st.types (omega (arith, st.places, st.within))
 
 slot_past : (a : ℕ) (l : List ℕ) → length l < a → slot a l ≡ None
 slot_past zero l h = absurd (omega arith)
@@ -71,83 +119,72 @@ slot_at (suc k) l h h' = let e : suc k - 1 ≡ k = omega arith in rw e (there l 
     there (x ∷ l) zero h = refl
     there (x ∷ l) (suc k) h = there l k (omega arith)
 
-module _ (s : Program) (n : ℕ) (f : Function) (i a : ℕ) {st : Stack} (o : InBounds st) {r : TypedStep} where
-  pub load_none : r ≡ no_arrow true st → a ≡ 0 → TypeSays n i (stack_of st) r (type_rule s n f i (Load a) (stack_of st))
+module _ (s : Program) (n : ℕ) (f : Function) (i a : ℕ) (st : Stack) where
+  pub load_none : a ≡ 0 → TypeSays n i (stack_of st) None (type_rule s n f i (Load a) (stack_of st))
   unfolding type_rule
-  load_none e h = type_wrong n i (stack_of st) e o (rw h)
+  load_none h = record { says = rw h refl }
 
-  pub load_past : r ≡ no_arrow true st → st.height < a → TypeSays n i (stack_of st) r (type_rule s n f i (Load a) (stack_of st))
+  pub load_past : st.height < a → TypeSays n i (stack_of st) None (type_rule s n f i (Load a) (stack_of st))
   unfolding type_rule
-  load_past e h = type_wrong n i (stack_of st) e o (rw (slot_past a (stack_of st) (rw (stack_length st o) h)))
+  load_past h = record { says = rw (slot_past a (stack_of st) (rw (stack_length st) h)) refl }
 
-  pub load_goes : (a ≡ 0 → ⊥) → a ≤ st.height
+  pub load_goes : {r : Option TypedStep} → (a ≡ 0 → ⊥) → a ≤ st.height
       → TypeSays n i (stack_of st) r (types_on s n f i (push (stack_of st) (get_or st.types (a - 1) 0)))
       → TypeSays n i (stack_of st) r (type_rule s n f i (Load a) (stack_of st))
   unfolding type_rule
-  load_goes h h' t = rw (slot_at a (stack_of st) h (rw (stack_length st o) h'), get_or-take st.height st.types (a - 1) 0 (omega arith)) t
+  load_goes h h' t =
+      rw (slot_at a (stack_of st) h (rw (stack_length st) h'), get_or-take st.height st.types (a - 1) 0 (omega arith)) t
 
 ---- Build and call
 
-module _ (s : Program) (n : ℕ) (f : Function) (i : ℕ) (here types : List ℕ) (result : ℕ) (stack : List ℕ) {cut : Cut}
-    (c : CutSays types stack cut) {r : TypedStep} where
-  pub apply_wrong : {st : Stack} → r ≡ no_arrow true st → InBounds st → cut.wrong ≡ true
-      → TypeSays n i here r (applied s n f i types result stack)
-  apply_wrong e o w = type_wrong n i here e o (rw (cut_refused c s n f i w))
+module _ (s : Program) (n : ℕ) (f : Function) (i : ℕ) (stack : List ℕ) {named : Option Declaration} (is : named ≡ None)
+    {r : Option TypedStep} (e : r ≡ None) where
+  pub make_unknown : (here : List ℕ) → TypeSays n i here r (applied_to s n f i (option_map signature_of named) stack)
+  make_unknown here = record { says = rw (is, e) refl }
 
-  pub apply_goes : cut.wrong ≡ false → TypeSays n i here r (types_on s n f i (push (stack_of cut.rest) result))
-      → TypeSays n i here r (applied s n f i types result stack)
-  apply_goes w t = rw (cut_found c s n f i w) t
+  pub branch_unknown : (b : ℕ) → TypeSays n i stack r (branched_to s n f i (option_map signature_of named) b stack)
+  branch_unknown b = record { says = rw (is, e) refl }
+
+module _ (s : Program) (n : ℕ) (f : Function) (i : ℕ) (here stack : List ℕ) {named : Option Declaration} {d : Declaration}
+    (is : named ≡ Some d) {r : Option TypedStep} where
+  pub make_wrong : None ≡ below_of (arguments_of d) stack → r ≡ None
+      → TypeSays n i here r (applied_to s n f i (option_map signature_of named) stack)
+  make_wrong q e = record { says = rw (is, below_is s n f i (arguments_of d) stack, ← q, e) refl }
+
+  pub make_goes : {rest : List ℕ} → Some rest ≡ below_of (arguments_of d) stack
+      → TypeSays n i here r (types_on s n f i (push rest d.result))
+      → TypeSays n i here r (applied_to s n f i (option_map signature_of named) stack)
+  make_goes q t = rw (is, below_is s n f i (arguments_of d) stack, ← q) t
 
 ---- Branch
 
-module _ (s : Program) (n : ℕ) (f : Function) (i result : ℕ) (types : List ℕ) (b : ℕ) (stack : List ℕ) {cut : Cut}
-    (c : CutSays (result ∷ []) stack cut) where
-  pub branch_wrong : {r : TypedStep} {st : Stack} → r ≡ no_arrow true st → InBounds st → cut.wrong ≡ true
-      → TypeSays n i stack r (branched s n f i result types b stack)
-  branch_wrong e o w = type_wrong n i stack e o (rw (cut_refused c s n f i w))
+module _ (s : Program) (n : ℕ) (f : Function) (i : ℕ) (b : ℕ) (stack : List ℕ) {named : Option Declaration} {d : Declaration}
+    (is : named ≡ Some d) where
+  pub branch_wrong : {r : Option TypedStep} → None ≡ below_of (d.result ∷ []) stack → r ≡ None
+      → TypeSays n i stack r (branched_to s n f i (option_map signature_of named) b stack)
+  branch_wrong q e = record { says = rw (is, below_is s n f i (d.result ∷ []) stack, ← q, e) refl }
 
-  pub branch_full : {r : TypedStep} {st : Stack} → r ≡ no_arrow true st → InBounds st → cut.wrong ≡ false
-      → 16 < cut.rest.height + length types → TypeSays n i stack r (branched s n f i result types b stack)
-  unfolding types_on
-  branch_full e o w h =
-      type_wrong n i stack e o
-      (rw (
-        cut_found c s n f i w,
-        length-append
-            (stack_of cut.rest) types,
-        stack_length cut.rest c.sound,
-        lt-leb (cut.rest.height + length types) 16 h,
-      ))
+  module _ {rest : List ℕ} (ends : Some rest ≡ below_of (d.result ∷ []) stack) where
+    pub branch_full : {r : Option TypedStep} → None ≡ grown (rest ++ arguments_of d) → r ≡ None
+        → TypeSays n i stack r (branched_to s n f i (option_map signature_of named) b stack)
+    branch_full q e =
+        record { says = rw (is, below_is s n f i (d.result ∷ []) stack, ← ends, types_on_is s n f i (rest ++ arguments_of d), ← q, e) refl }
 
-  pub branch_goes : {st : Stack} → Holds st (stack_of cut.rest ++ types) → cut.wrong ≡ false → 1 ≤ b
-      → TypeSays n i stack (record { wrong = false; on = i + 1; to = b; stack = st }) (branched s n f i result types b stack)
-  unfolding typed_of types_on arrow_to
-  branch_goes o w h = record { says = rw (cut_found c s n f i w, fits s n f i o, o.is, add-one i) (arrows b h); sound = o.sound }
-    where
-      arrows : (b : ℕ) → 1 ≤ b → found (arrow_to (suc i) (stack_of cut.rest ++ types) ++ arrow_to b stack)
-          ≡ found ((suc i, stack_of cut.rest ++ types) ∷ (b, stack) ∷ [])
-      arrows zero h = absurd (omega arith)
-      arrows (suc b) h = refl
+    pub branch_goes : {next : Stack} → Some (stack_of next) ≡ grown (rest ++ arguments_of d)
+        → TypeSays n i stack (Some (Both next b)) (branched_to s n f i (option_map signature_of named) b stack)
+    branch_goes q =
+        record { says = rw (is, below_is s n f i (d.result ∷ []) stack, ← ends, types_on_is s n f i (rest ++ arguments_of d), ← q) refl }
 
 ---- Return
 
-pub return_says : (s : Program) (n : ℕ) (f : Function) (i result : ℕ) {st : Stack} {cut : Cut} {r : TypedStep}
-    → CutSays (result ∷ []) (stack_of st) cut → r ≡ no_arrow cut.wrong st → InBounds st → f.result ≡ result
-    → TypeSays n i (stack_of st) r (type_rule s n f i Return (stack_of st))
-unfolding type_rule
-return_says s n f i result {st} {cut} {r} c e o q = go cut.wrong refl e
-  where
-    top : below s n f i (f.result ∷ []) (stack_of st) ≡ below s n f i (result ∷ []) (stack_of st)
-    top = ap (λ (t : ℕ). below s n f i (t ∷ []) (stack_of st)) q
+module _ (s : Program) (n : ℕ) (f : Function) (i : ℕ) (stack : List ℕ) {res : ℕ} (is : f.result ≡ res) where
+  result_is : below s n f i (f.result ∷ []) stack ≡ or_refuse (below_of (res ∷ []) stack) (refusal 8 n i)
+  result_is = ap (λ (t : ℕ). below s n f i (t ∷ []) stack) is ∙ below_is s n f i (res ∷ []) stack
 
-    go : (w : Bool) → cut.wrong ≡ w → r ≡ no_arrow w st
-        → TypeSays n i (stack_of st) r (below s n f i (f.result ∷ []) (stack_of st) >>= (λ rest. found []))
-    go true w e = type_wrong n i (stack_of st) e o (rw (top ∙ cut_refused c s n f i w))
-    go false w e = type_ends n i (stack_of st) e o (rw (top ∙ cut_found c s n f i w))
+  pub return_wrong : {r : Option TypedStep} → None ≡ below_of (res ∷ []) stack → r ≡ None → TypeSays n i stack r (type_rule s n f i Return stack)
+  unfolding type_rule
+  return_wrong q e = record { says = rw (e, result_is, ← q) refl }
 
----- Stop, and a branch's target
-
-pub stop_says : (s : Program) (n : ℕ) (f : Function) (i : ℕ) (here : List ℕ) {st : Stack} {r : TypedStep} → r ≡ no_arrow false st
-    → InBounds st → TypeSays n i here r (type_rule s n f i Stop here)
-unfolding type_rule
-stop_says s n f i here e o = type_ends n i here e o refl
+  pub return_ends : {rest : List ℕ} → Some rest ≡ below_of (res ∷ []) stack → TypeSays n i stack (Some Ends) (type_rule s n f i Return stack)
+  unfolding type_rule
+  return_ends q = record { says = rw (result_is, ← q) refl }

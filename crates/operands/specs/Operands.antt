@@ -1,56 +1,45 @@
 -- The types of a stack as the type pass keeps them, and what its answers say.
-use Rattle.std.specs.Prelude.{if◌then◌else◌, ◌≡◌, List, [], ◌∷◌, ◌++◌, Bool, true, false, ◌&&◌, ℕ, ◌-◌, ◌≤◌, length, take, drop, leb}
+use Rattle.std.specs.Prelude.{if◌then◌else◌, ◌≡◌, List, [], ◌∷◌, ◌++◌, ℕ, suc, ◌-◌, length, take, leb, eqb}
 use Rattle.std.specs.Prelude.{Option, None, Some}
+use Rattle.std.specs.List.{ends_with}
+use Rattle.rules.specs.declared.records.Declaration.{Declaration}
 use Rattle.rules.specs.Base.{Tried, found, refused, refusal, ◌>>=◌}
 use Rattle.rules.specs.Program.{Function, Program}
 use Rattle.rules.specs.Records.{arguments_of}
-use Rattle.rules.specs.Walk.{Arrow, arrow_to}
+use Rattle.rules.specs.Walk.{Arrow}
 use Rattle.rules.specs.Stacks.{push}
-use Rattle.rules.specs.Types.{same, below, types_on}
+use Rattle.rules.specs.Types.{below, types_on}
 use Rattle.operands.specs.declared.stack.Stack.{Stack}
-use Rattle.operands.specs.declared.stack.Cut.{Cut}
 use Rattle.operands.specs.declared.operation.TypedStep.{TypedStep}
-use Rattle.operands.specs.declared.named.Lookup.{Lookup}
+use Rattle.operands.specs.declared.operation.TypedStep.TheVariants.{Ends, Next, Both}
 
 abbrev pub stack_of : Stack → List ℕ
 stack_of st = take st.height st.types
 
--- sixteen places, no more in use
-pub record InBounds (st : Stack) : Type 0 where
-  pub places : length st.types ≡ 16
-  pub within : st.height ≤ 16
+-- types that a stack has room for
+abbrev pub grown : List ℕ → Option (List ℕ)
+grown types = if leb (length types) 16 then Some types else None
 
--- a stack with these types
-pub record Holds (st : Stack) (types : List ℕ) : Type 0 where
-  pub sound : InBounds st
-  pub is : stack_of st ≡ types
+-- what is below these types, where a stack ends in them
+abbrev pub below_of : List ℕ → List ℕ → Option (List ℕ)
+below_of types stack = if ends_with eqb stack types then Some (take (length stack - length types) stack) else None
 
--- the stack ends in these types
-abbrev pub ends_in : List ℕ → List ℕ → Bool
-ends_in stack types = leb (length types) (length stack) && same (drop (length stack - length types) stack) types
+---- What the answers say, in function n at instruction i, where this stack arrives
 
----- What the answers say, in function n at instruction i
+-- the arrows that leave
+abbrev pub arrows_of : ℕ → List ℕ → TypedStep → List (Arrow (List ℕ))
+arrows_of i here Ends = []
+arrows_of i here (Next next) = (suc i, stack_of next) ∷ []
+arrows_of i here (Both next to) = (suc i, stack_of next) ∷ (to, here) ∷ []
 
--- what is below the types that the stack is to end in, or 8
-unfoldable pub rest_of : ℕ → ℕ → Cut → Tried (List ℕ)
-rest_of n i r = if r.wrong then refused (refusal 8 n i) else found (stack_of r.rest)
-
-pub record CutSays (types stack : List ℕ) (r : Cut) : Type 0 where
-  pub says : (s : Program) (n : ℕ) (f : Function) (i : ℕ) → rest_of n i r ≡ below s n f i types stack
-  pub sound : InBounds r.rest
-
--- the arrows that leave, where this stack arrived, or 8
-unfoldable pub typed_of : ℕ → ℕ → List ℕ → TypedStep → Tried (List (Arrow (List ℕ)))
-typed_of n i here r = if r.wrong then refused (refusal 8 n i) else found (arrow_to r.on (stack_of r.stack) ++ arrow_to r.to here)
-
--- nothing leaves, whether that is wrong or not
-abbrev pub no_arrow : Bool → Stack → TypedStep
-no_arrow wrong st = record { wrong = wrong; on = 0; to = 0; stack = st }
+-- or 8
+abbrev pub typed_of : ℕ → ℕ → List ℕ → Option TypedStep → Tried (List (Arrow (List ℕ)))
+typed_of n i here None = refused (refusal 8 n i)
+typed_of n i here (Some r) = found (arrows_of i here r)
 
 -- an answer says what a rule does
-pub record TypeSays (n i : ℕ) (here : List ℕ) (r : TypedStep) (rule : Tried (List (Arrow (List ℕ)))) : Type 0 where
+pub record TypeSays (n i : ℕ) (here : List ℕ) (r : Option TypedStep) (rule : Tried (List (Arrow (List ℕ)))) : Type 0 where
   pub says : typed_of n i here r ≡ rule
-  pub sound : InBounds r.stack
 
 ---- The type rules once the signature that an instruction names is found
 
@@ -73,11 +62,8 @@ branched s n f i result types b stack = do
 abbrev pub Signature : Type 0
 Signature = List ℕ × ℕ
 
--- what was looked up
-pub record Finds (o : Option Signature) (l : Lookup) : Type 0 where
-  pub unknown : l.known ≡ false → o ≡ None
-  pub known : l.known ≡ true → o ≡ Some (arguments_of l.signature, l.signature.result)
-  pub few : l.signature.arity ≤ 4
+abbrev pub signature_of : Declaration → Signature
+signature_of d = (arguments_of d, d.result)
 
 -- a build or a call of what is named, and a branch on it
 abbrev pub applied_to : Program → ℕ → Function → ℕ → Option Signature → List ℕ → Tried (List (Arrow (List ℕ)))

@@ -1,8 +1,5 @@
 // The types of a stack, by value.
-ghost use Rattle.std.specs.Prelude.{◌≡◌, [], ◌++◌, ◌+◌, ◌≤◌, ◌<◌, take};
-ghost use Rattle.rules.specs.Records.{arguments_of};
-ghost use Rattle.rules.specs.Stacks.{push as pushed};
-ghost use Rattle.operands.specs.Operands.{stack_of, InBounds, Holds, CutSays, ends_in};
+ghost use Rattle.std.specs.Prelude.{◌≡◌, ◌≤◌, length};
 
 use rules::records::Declaration;
 
@@ -11,96 +8,65 @@ use rules::records::Declaration;
 pub struct Stack {
     pub height: usize,
     pub types: [u8; 16],
+    pub ghost places: { length types ≡ 16 },
+    pub ghost within: { height ≤ 16 },
 }
 
-// What is below the types that a stack is to end in.
-#[derive(Clone, Copy)]
-pub struct Cut {
-    pub wrong: bool,
-    pub rest: Stack,
-}
+impl Stack {
+    ghost use Rattle.std.specs.Prelude.{if◌then◌else◌, [], ◌∷◌, ◌++◌, ◌+◌, Option.None, Option.Some, leb};
+    ghost use Rattle.std.specs.Option.{option_map};
+    ghost use Rattle.rules.specs.Records.{arguments_of};
+    ghost use Rattle.operands.specs.Operands.{stack_of, grown, below_of};
 
-// For the crates above: no types at all.
-pub fn empty() -> Stack
-    ensures { Holds result [] }
-{
-    Stack {
-        height: 0,
-        types: [0u8; 16],
-    }
-}
-
-pub fn push(st: Stack, t: u8) -> Stack
-    requires { st.height < 16 }
-    ensures { Holds result (pushed (stack_of st) t) }
-{
-    let h = st.height;
-    let mut types = st.types;
-    types[h] = t;
-    Stack {
-        height: h + 1,
-        types: types,
-    }
-}
-
-// For the crates above: the argument types of a declaration on top, the first deepest.
-pub fn push_arguments(st: Stack, d: Declaration) -> Stack
-    requires { (d.arity ≤ 4) × (st.height + d.arity ≤ 16) }
-    ensures { Holds result (stack_of st ++ arguments_of d) }
-{
-    let h = st.height;
-    let arity = readers::wide(d.arity);
-    let four = d.types;
-    let mut types = st.types;
-    let mut k: usize = 0;
-    while k < arity {
-        types[h + k] = four[k];
-        k += 1;
-    }
-    Stack {
-        height: h + arity,
-        types: types,
-    }
-}
-
-// Whether the stack ends in the first k of four types, the first deepest.
-fn ends_in(st: Stack, four: [u8; 4], k: usize) -> bool
-    requires { (st.height ≤ 16) × (k ≤ 4) }
-    ensures { result ≡ ends_in (stack_of st) (take k four) }
-{
-    let h = st.height;
-    if h < k {
-        return false;
-    }
-    let types = st.types;
-    let mut j: usize = 0;
-    while j < k {
-        if types[h - k + j] != four[j] {
-            return false;
+    // For the crates above: no types at all.
+    pub fn empty() -> Stack
+        ensures { stack_of result ≡ [] }
+    {
+        Stack {
+            height: 0,
+            types: [0; 16],
         }
-        j += 1;
     }
-    true
-}
 
-// What is below the first k of four types.
-pub fn below(st: Stack, four: [u8; 4], k: usize) -> Cut
-    requires { InBounds st × (k ≤ 4) }
-    ensures { CutSays (take k four) (stack_of st) result }
-{
-    if !ends_in(st, four, k) {
-        return Cut {
-            wrong: true,
-            rest: st,
-        };
+    // These types on top, the first deepest.
+    fn push(self, more: &[u8]) -> Stack
+        requires { self.height + length more.now ≤ 16 }
+        ensures { stack_of result ≡ stack_of self ++ more.now }
+    {
+        let height = self.height + more.len();
+        let mut types = self.types;
+        types[self.height..height].copy_from_slice(more);
+        Stack { height, types }
     }
-    let h = st.height;
-    let types = st.types;
-    Cut {
-        wrong: false,
-        rest: Stack {
-            height: h - k,
-            types: types,
-        },
+
+    // For the crates above: the argument types of a declaration on top, the first deepest.
+    pub fn push_arguments(self, d: Declaration) -> Stack
+        requires { (d.arity ≤ 4) × (self.height + d.arity ≤ 16) }
+        ensures { stack_of result ≡ stack_of self ++ arguments_of d }
+    {
+        self.push(&d.types[..usize::from(d.arity)])
+    }
+
+    // These types on top, where the height allows it.
+    pub fn grow(self, more: &[u8]) -> Option<Stack>
+        ensures { option_map stack_of result ≡ grown (stack_of self ++ more.now) }
+    {
+        if more.len() > 16 - self.height {
+            return None;
+        }
+        Some(self.push(more))
+    }
+
+    // What is below these types, where the stack ends in them.
+    pub fn below(self, top: &[u8]) -> Option<Stack>
+        ensures { option_map stack_of result ≡ below_of top.now (stack_of self) }
+    {
+        if !self.types[..self.height].ends_with(top) {
+            return None;
+        }
+        Some(Stack {
+            height: self.height - top.len(),
+            types: self.types,
+        })
     }
 }
