@@ -1,13 +1,13 @@
 -- Numbers stored one after the other are references put: copied, made zero, or put into a cell.
 use Prim.Native.Nat.{ℕ, ◌+◌, ◌*◌, ◌≤◌, ◌<◌}
 use mathlib.Core.Path.{◌≡◌, refl, sym, subst, ◌∙◌}
-use mathlib.Core.List.{List, [], ◌∷◌}
+use mathlib.Core.List.{List, [], ◌∷◌, ◌++◌}
 use native.Mathlib.Omega.{arith}
-use lib.ListN.{length, get_or, set, length-set}
+use lib.ListN.{length, get_or, set, take, drop, replicate, length-set, length-take, length-drop}
 use lib.Seq.{get_or-set_same, get_or-set_other}
 use Rattle.rules.specs.Lists.{l[], ◌l∷◌}
 use Rattle.store.specs.Cells.{refs, constructor_in, argument_in, arguments_in, RefsPut, CellPut}
-use Rattle.store.proofs.RefLaws.{length_refs, refs_end, refs_all, put_none, put_one, put_more}
+use Rattle.store.proofs.RefLaws.{length_refs, refs_end, refs_all, put_part, put_none, put_one, put_more}
 
 pub copied_none : (from : List ℕ) (at to : ℕ) (out : List ℕ) → RefsPut to (refs from at 0) out out
 unfolding refs
@@ -70,20 +70,12 @@ module _ (at to : ℕ) (out : List ℕ) where
       → RefsPut to (refs out at 4) out (set three_again (to + 3) (get_or three_again (at + 3) 0))
   again_four a h = copied_again at to 3 out three_again (omega arith) (omega arith) (again_three (omega arith) (omega arith))
 
--- one to four zeros
-module _ (at : ℕ) (out : List ℕ) where
-  pub cleared_one : at + 1 ≤ length out → RefsPut at (0 ∷ []) out (set out at 0)
-  cleared_one h = put_one out at 0 (omega arith)
-
-  pub cleared_two : at + 2 ≤ length out → RefsPut at (0 ∷ 0 ∷ []) out (set (set out at 0) (at + 1) 0)
-  cleared_two h = put_more at 0 (0 ∷ []) out _ (cleared_one (omega arith)) (omega arith)
-
-  pub cleared_three : at + 3 ≤ length out → RefsPut at (0 ∷ 0 ∷ 0 ∷ []) out (set (set (set out at 0) (at + 1) 0) (at + 2) 0)
-  cleared_three h = put_more at 0 (0 ∷ 0 ∷ []) out _ (cleared_two (omega arith)) (omega arith)
-
-  pub cleared_four : at + 4 ≤ length out
-      → RefsPut at (0 ∷ 0 ∷ 0 ∷ 0 ∷ []) out (set (set (set (set out at 0) (at + 1) 0) (at + 2) 0) (at + 3) 0)
-  cleared_four h = put_more at 0 (0 ∷ 0 ∷ 0 ∷ []) out _ (cleared_three (omega arith)) (omega arith)
+-- four places filled with zeros
+pub cleared_four : (at k : ℕ) (out four : List ℕ) → k ≡ 4 → at + 4 ≤ length out → four ≡ replicate (length (take k (drop at out))) 0
+    → RefsPut at (0 ∷ 0 ∷ 0 ∷ 0 ∷ []) out (take at out ++ (four ++ drop k (drop at out)))
+cleared_four at k out four m h e =
+    let n : length (take 4 (drop at out)) ≡ 4 = simp (length-take, length-drop) (omega arith) in
+    rw (e, m, n) (put_part at 4 (0 ∷ 0 ∷ 0 ∷ 0 ∷ []) out refl h)
 
 -- each of four zeros put
 zero_at : (at : ℕ) (out out' : List ℕ) → RefsPut at (0 ∷ 0 ∷ 0 ∷ 0 ∷ []) out out' → (j : ℕ) → j < 4 → get_or out' (at + j) 0 ≡ 0

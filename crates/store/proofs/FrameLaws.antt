@@ -13,6 +13,11 @@ unfolding frames_in
 frames_length frames zero = refl
 frames_length frames (suc k) = ap suc (frames_length frames k)
 
+-- a frame of zeros is that of a cleared place
+pub of_zeros : {w : Frame} → w.function ≡ 0 → w.instruction ≡ 0 → w.height ≡ 0 → w ≡ no_frame
+of_zeros {w} a b c =
+    ap₂ (λ (x y : ℕ). record w { function = x; instruction = y }) a b ∙ ap (λ (z : ℕ). record no_frame { height = z }) c
+
 ---- What a frame stored leaves
 
 put_length : (k : ℕ) (w : Frame) (frames frames' : List Frame) → FramePut k w frames frames' → length frames' ≡ length frames

@@ -5,8 +5,9 @@ use mathlib.Core.List.{List, [], ◌∷◌, ◌++◌}
 use Rattle.std.specs.Prelude.{Some, slice_get}
 use native.Mathlib.Omega.{arith}
 use native.Mathlib.Nat.{add-zero, add-suc, suc-add}
-use lib.ListN.{length, get_or, set, length-append, length-set}
-use lib.Seq.{take-append_seam, drop-append_seam, get_or-set_same, get_or-set_other}
+use lib.ListN.{length, get_or, set, take, drop, length-append, length-set, length-take, length-drop, get_or-append}
+use lib.Seq.{take-append_seam, drop-append_seam, drop-cons, get_or-take, get_or-drop, get_or-set_same, get_or-set_other}
+use Rattle.std.proofs.lemmas.List.{get_or-append_right}
 use borrow.Author.Tests.{le-leb}
 use Rattle.rules.specs.Lists.{All, ◌l∷◌}
 use Rattle.rules.specs.Machine.{top}
@@ -92,6 +93,42 @@ put_on to l out out' p a h =
     let e : a + (to - a) ≡ to = omega arith in
     let low = put_low to l out out' p a (to - a) (omega arith) in
     refs_append out' a (to - a) (length l) ∙ rw (e, p.put, low)
+
+-- the references from a place on are a part of the list
+pub refs_part : (l : List ℕ) (a n : ℕ) → a + n ≤ length l → refs l a n ≡ take n (drop a l)
+unfolding refs
+refs_part l a zero h = refl
+refs_part l a (suc n) h = rw (drop-cons l a 0 (omega arith), refs_part l (suc a) n (omega arith))
+
+-- numbers in the place of as many
+pub put_part : (to k : ℕ) (l out : List ℕ) → length l ≡ k → to + k ≤ length out
+    → RefsPut to l out (take to out ++ (l ++ drop k (drop to out)))
+put_part to k l out e h = record {
+  len = len;
+  put = refs_part out' to (length l) (omega (arith, len)) ∙ put;
+  low = λ i m. get_or-append (take to out) part 0 i (omega (arith, front)) ∙ get_or-take to out i 0 m;
+  high = λ i m.
+      let j : k + (i - to - k) ≡ i - to = omega arith in
+      let q : to + (i - to) ≡ i = omega arith in
+      get_or-append_right (take to out) part to i 0 front (omega arith)
+      ∙ get_or-append_right l (drop k (drop to out)) k (i - to) 0 e (omega arith)
+      ∙ rw (get_or-drop k (drop to out), j, get_or-drop to out, q);
+}
+  where
+    part : List ℕ
+    part = l ++ drop k (drop to out)
+
+    out' : List ℕ
+    out' = take to out ++ part
+
+    front : length (take to out) ≡ to
+    front = omega (arith, length-take to out)
+
+    len : length out' ≡ length out
+    len = simp (length-append, length-drop, length-take) (omega arith)
+
+    put : take (length l) (drop to out') ≡ l
+    put = rw (rw front at (drop-append_seam (take to out) part)) (take-append_seam l (drop k (drop to out)))
 
 pub put_one : (out : List ℕ) (i x : ℕ) → i < length out → RefsPut i (x ∷ []) out (set out i x)
 unfolding refs

@@ -1,11 +1,10 @@
 // Constants and cells, told apart by their number. A constant is the number of its constructor; cells count from there on, five numbers
 // each, the constructor and four arguments.
-ghost use Rattle.std.specs.Prelude.{◌≡◌, false, [], ◌∷◌, ◌+◌, ◌≤◌, ◌<◌, length};
+ghost use Rattle.std.specs.Prelude.{◌≡◌, false, ◌+◌, ◌≤◌, ◌<◌, length};
 ghost use Rattle.rules.specs.Heap.{is_constant, number_of};
 ghost use Rattle.store.specs.Cells.{refs, argument_in, arguments_in, cell_of, cells_to, label_in, CellRoom, RefsPut, CellPut};
 
 use crate::copying::copy;
-use crate::numbers::wide16;
 
 // How many numbers are for constants: as many as there can be constructors.
 const CONSTANTS: usize = 64;
@@ -25,7 +24,7 @@ pub fn constructor_at(cells: &[u16], k: usize) -> usize
     if k < CONSTANTS {
         return k;
     }
-    wide16(cells[5 * (k - CONSTANTS)])
+    usize::from(cells[5 * (k - CONSTANTS)])
 }
 
 // For the crates above: argument j of a reference that is no constant.
@@ -33,28 +32,18 @@ pub fn argument_at(cells: &[u16], k: usize, j: usize) -> usize
     requires { CellRoom cells.now (cells_to k) × (k < 65536) × (is_constant k ≡ false) × (j < 4) }
     ensures { (result ≡ argument_in cells.now (cell_of k) j) × (result < 65536) }
 {
-    wide16(cells[5 * (k - CONSTANTS) + 1 + j])
-}
-
-// Makes four numbers of a slice zero.
-fn clear_four(out: &mut [u16], at: usize)
-    requires { at + 4 ≤ length out.old }
-    ensures { RefsPut at (0 ∷ 0 ∷ 0 ∷ 0 ∷ []) out.old out.new }
-{
-    out[at] = 0;
-    out[at + 1] = 0;
-    out[at + 2] = 0;
-    out[at + 3] = 0;
+    usize::from(cells[5 * (k - CONSTANTS) + 1 + j])
 }
 
 // For the crates above: makes cell i of constructor c over the n references of a stack from a place on, and gives its number.
+#[tactic(auto, unfolding(crate::specs::Cells::CellRoom))]
 pub fn put_cell(cells: &mut [u16], i: usize, c: u16, stack: &[u16], from: usize, n: usize) -> u16
     requires { CellRoom cells.old (i + 1) × (i < 65471) × (n ≤ 4) × (from + n ≤ length stack.now) }
     ensures { (result ≡ number_of i) × CellPut i c (refs stack.now from n) cells.old cells.new }
 {
     let base = 5 * i;
     cells[base] = c;
-    clear_four(cells, base + 1);
+    cells[base + 1..base + 5].fill(0);
     copy(stack, from, cells, base + 1, n);
     (i + CONSTANTS) as u16
 }

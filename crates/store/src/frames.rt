@@ -4,7 +4,7 @@ ghost use Rattle.rules.specs.Memory.{table_after};
 ghost use Rattle.store.specs.Frames.{no_frame, frame_in, FramePut};
 
 // A frame that waits for the one above it: its function, the call that it stands at, and how many stack places are its own.
-#[derive(Clone, Copy)]
+#[derive(Clone, Copy, Debug, Default, PartialEq, Eq)]
 pub struct Frame {
     pub function: u16,
     pub instruction: u16,
@@ -32,14 +32,5 @@ pub fn clear_frames(frames: &mut [Frame], n: usize)
     requires { n ≤ length frames.old }
     ensures { frames.new ≡ table_after true no_frame n frames.old }
 {
-    let zero = Frame {
-        function: 0,
-        instruction: 0,
-        height: 0,
-    };
-    let mut i = 0;
-    while i < n {
-        frames[i] = zero;
-        i += 1;
-    }
+    frames[..n].fill(Frame::default());
 }

@@ -12,42 +12,24 @@ pub struct Limits {
     pub frames: usize,
 }
 
-// At most so many of a table are used.
-fn most(limit: usize, n: usize) -> usize
-    ensures { result ≡ min limit n }
-{
-    if n < limit { n } else { limit }
-}
-
 // For the crates above: what is usable of tables of so many numbers, five to a cell, and so many frames. Cells are fewer, since constants
 // have numbers too.
 pub fn usable(cells: usize, stack: usize, frames: usize) -> Limits
     ensures { (result.cells ≡ min 65471 (cells / 5)) × (result.stack ≡ min 65535 stack) × (result.frames ≡ min 65535 frames) }
 {
     Limits {
-        cells: most(65471, cells / 5),
-        stack: most(65535, stack),
-        frames: most(65535, frames),
-    }
-}
-
-// Makes the usable entries of a table zero and keeps any beyond.
-fn clear(table: &mut [u16], n: usize)
-    requires { n ≤ length table.old }
-    ensures { table.new ≡ table_after true 0 n table.old }
-{
-    let mut j: usize = 0;
-    while j < n {
-        table[j] = 0;
-        j += 1;
+        cells: (cells / 5).min(65471),
+        stack: stack.min(65535),
+        frames: frames.min(65535),
     }
 }
 
 // For the crates above: after the run, the usable entries of cells and stack zero, any beyond kept.
+#[tactic(auto, unfolding(crate::specs::Cells::CellRoom))]
 pub fn wipe(cells: &mut [u16], stack: &mut [u16], m: Limits)
     requires { CellRoom cells.old m.cells × (m.cells ≤ 65471) × (m.stack ≤ length stack.old) }
     ensures { Wiped m cells.old stack.old cells.new stack.new }
 {
-    clear(cells, 5 * m.cells);
-    clear(stack, m.stack);
+    cells[..5 * m.cells].fill(0);
+    stack[..m.stack].fill(0);
 }

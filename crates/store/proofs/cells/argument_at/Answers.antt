@@ -14,4 +14,4 @@ bounds-cells-k c =
 
 pub returns : goal.returns
 unfolding argument_in cell_of
-returns c = c.wide16.ensures
+returns c = (c.from.ensures, omega arith)

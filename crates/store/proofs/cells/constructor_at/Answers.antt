@@ -18,4 +18,4 @@ bounds-cells-k c = omega (arith, c.if-k-lt-CONSTANTS.false)
 pub returns : goal.returns
 unfolding label_in constructor_in cell_of
 returns c =
-    rw (le-ltb c.args.k 64 c.if-k-lt-CONSTANTS.false) c.wide16.ensures
+    rw (le-ltb c.args.k 64 c.if-k-lt-CONSTANTS.false) (c.from.ensures, omega arith)
