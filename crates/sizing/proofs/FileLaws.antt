@@ -176,7 +176,7 @@ module _ {file heads : List ℕ} (w : Walking file heads) where
       bound_right =
           let c = is.count in let lo = here.some_alternatives in let hi = here.few_alternatives in
           record {
-            Some = omega arith;
+            some = omega arith;
             few = omega arith;
             there = λ i l _. rw is.head (here.alternative i (counted_in i l)).0;
             each = λ i l. rw (row_is i) (record { four = refl; small = small_at i l; constant = constant_small i });

@@ -90,7 +90,7 @@ module _ {s : Program} (n : ℕ) {f : Function} {sh : Shape} {own : Form} {stack
       let h = r.held i l in
       record {
         right = h.right;
-        Some = h.some;
+        some = h.some;
         below = covered_below 15 131072 (form_in own) (form_in (get_or stack i no_form)) r.most h.right.wide h.covered;
       }
 
@@ -184,7 +184,7 @@ module _ {s : Program} (n : ℕ) {f : Function} {sh : Shape} {own : Form} {stack
     enter_line z l c =
         let q = mk.right (omega (arith, z)) in
         pushed (take (length sh.stack - m) sh.stack) (entered m symbol) (height - m) x (is ∙ sym q.1) (omega arith) l (rest_are m)
-        (record { right = q.0; Some = omega (arith, z); covered = c })
+        (record { right = q.0; some = omega (arith, z); covered = c })
 
     pub enter_refused : (x.count ≡ 0 → ⊥) → covers (form_in own) (form_in x) ≡ false → (j : ℕ) (ins : Instruction)
         → shape_rule s n f j ins (entered_shape m symbol) ≡ refused (refusal 10 n j)

@@ -1,5 +1,6 @@
 -- One step of the walk: what each way through it says of what is left.
 use Rattle.std.specs.Prelude.{if◌then◌else◌}
+use Rattle.std.specs.Prelude.{Result, Ok, Err}
 use mathlib.Core.Path.{◌≡◌, refl, sym, ap, ◌∙◌}
 use mathlib.Core.List.{List, [], ◌∷◌, ◌++◌}
 use Rattle.std.specs.Prelude.{Some}
@@ -9,8 +10,6 @@ use native.Mathlib.Omega.{arith}
 use native.Mathlib.Numerals.{add-one}
 use lib.ListN.{length, get_or}
 use lib.Seq.{get_or-take, length-take-le}
-use Rattle.rules.specs.declared.answers.Checked.{Checked}
-use Rattle.rules.specs.declared.answers.Checked.TheVariants as checked
 use Rattle.rules.specs.declared.answers.Reason.{Reason}
 use Rattle.rules.specs.declared.answers.Reason.TheVariants.{TooManyForms}
 use Rattle.rules.specs.declared.records.Declaration.{Declaration}
@@ -47,23 +46,23 @@ use Rattle.sizing.proofs.StepLaws.{load_saved, under_top}
 use Rattle.sizing.proofs.StartLaws.{branch_room}
 use Rattle.sizing.proofs.SplitLaws.{numbered_le, split_at}
 
-right_refused : {why : Reason} → ◌≡◌ {A = Checked} (checked.Refused why) checked.Right → ⊥
-right_refused e = let z : ◌≡◌ {A = ℕ} 0 1 = cc in omega arith
+right_refused : {why : Reason} → ◌≡◌ {A = Result Unit Reason} (Err why) (Ok tt) → ⊥
+right_refused e = cc
 
 module _ {file : List ℕ} {g i : ℕ} {st : Saved} {m : Moved} where
-  said_right : m.checked ≡ checked.Right
+  said_right : m.checked ≡ Ok tt
       → ((arrows : List (Arrow Shape)) → first (arriving i arrows) ≡ standing (function_in file g) st
       → left_from (program_in file) g (function_in file g) i arrows
       ≡ left_from (program_in file) g (function_in file g) m.on (leaving (function_in file g) m ++ arrows))
       → Lands file g i m → StepSays file g i st m
-  said_right e h l = record { left = λ arrows q. h arrows q ∙ sym (ap (λ (c : Checked). move_left file g m c arrows) e); lands = λ _. l }
+  said_right e h l = record { left = λ arrows q. h arrows q ∙ sym (ap (λ (c : Result Unit Reason). move_left file g m c arrows) e); lands = λ _. l }
 
-  said_refused : {why : Reason} → m.checked ≡ checked.Refused why
+  said_refused : {why : Reason} → m.checked ≡ Err why
       → ((arrows : List (Arrow Shape)) → first (arriving i arrows) ≡ standing (function_in file g) st
       → left_from (program_in file) g (function_in file g) i arrows ≡ refused (refusal_of why))
       → StepSays file g i st m
   said_refused e h = record {
-    left = λ arrows q. h arrows q ∙ sym (ap (λ (c : Checked). move_left file g m c arrows) e);
+    left = λ arrows q. h arrows q ∙ sym (ap (λ (c : Result Unit Reason). move_left file g m c arrows) e);
     lands = λ z. absurd (right_refused (sym e ∙ z));
   }
 
@@ -133,7 +132,7 @@ module _ {file heads : List ℕ} {g i : ℕ} {st : Saved} {v : ℕ} (a : MoveAsk
 
   pub said_load : (k : ℕ) → k ≡ v - 1 → (x u : Saved) → SameSplits st x → x.height ≡ st.height + 1 → stack_in x ≡ stack_in st
       ++ (get_or (stack_in st) k 0 ∷ []) → u.visited ≡ false
-      → StepSays file g i st (record { checked = checked.Right; next = x; near = i + 1; other = u; far = 0; on = i + 1 })
+      → StepSays file g i st (record { checked = Ok tt; next = x; near = i + 1; other = u; far = 0; on = i + 1 })
   said_load k e x u q h s off =
       let w = a.function.walking in let t = a.function.there in
       let y = at_load w t a.fit.at v a.is in
@@ -172,7 +171,7 @@ module _ {file heads : List ℕ} {g : ℕ} {r : Routine} {i : ℕ} {st : Saved} 
         let q : LineSays file g i st (straight.Ends j) = rw e at says in
         said_stay s q.further (λ arrows f. q.left arrows (arrives a.move arrows f))
 
-    pub said_line_refused : (why : Reason) → l ≡ straight.Refused why → m.checked ≡ checked.Refused why → StepSays file g i st m
+    pub said_line_refused : (why : Reason) → l ≡ straight.Refused why → m.checked ≡ Err why → StepSays file g i st m
     said_line_refused why e c =
         let q : LineSays file g i st (straight.Refused why) = rw e at says in
         said_refused c (λ arrows f. q.left arrows (arrives a.move arrows f))
@@ -220,7 +219,7 @@ module _ {file heads : List ℕ} {g i : ℕ} {st : Saved} {c b : ℕ} (a : MoveA
         let o = y.some_stack in let u = r.list in let v = r.few in
         let taken : length (splits_in st) ≡ st.taken = length-take-le st.taken st.list (omega arith) in
         record {
-          Some = o;
+          some = o;
           high = r.high;
           fits = omega arith;
           few = r.few;
@@ -247,7 +246,7 @@ module _ {file heads : List ℕ} {g i : ℕ} {st : Saved} {c b : ℕ} (a : MoveA
           says (program_in file) g (function_in file g) i b reached.kind a.fit.right a.visited reached.known parts_is
 
       pub said_branch_large : {m : Moved} → r.large ≡ true
-          → m.checked ≡ checked.Refused (TooManyForms (record { function = g; instruction = i })) → StepSays file g i st m
+          → m.checked ≡ Err (TooManyForms (record { function = g; instruction = i })) → StepSays file g i st m
       said_branch_large z e =
           said_refused e (λ arrows f. outcome_refused (shape_rule (program_in file) g (function_in file g)) (function_in file g).code i
           arrows
@@ -255,7 +254,7 @@ module _ {file heads : List ℕ} {g i : ℕ} {st : Saved} {c b : ℕ} (a : MoveA
 
       pub said_branch : r.large ≡ false → (near far : ℕ) → near ≡ (if r.next.visited then i + 1 else 0)
           → far ≡ (if r.other.visited then b else 0)
-          → StepSays file g i st (record { checked = checked.Right; next = r.next; near = near; other = r.other; far = far; on = i + 1 })
+          → StepSays file g i st (record { checked = Ok tt; next = r.next; near = near; other = r.other; far = far; on = i + 1 })
       said_branch z near far e f =
           let y = reached in
           said_right refl

@@ -1,4 +1,5 @@
 -- The slots of a function's walk: each holds the state that arrives first at its instruction.
+use Rattle.std.specs.Prelude.{Result, Ok, Err}
 use mathlib.Core.Path.{◌≡◌, refl, sym, ap, ◌∙◌}
 use mathlib.Core.List.{List, [], ◌∷◌, ◌++◌, map, map-id}
 use mathlib.Core.Bool.{Bool, true, false}
@@ -9,8 +10,6 @@ use lib.ListN.{length, get_or, set, take, replicate, length-set, length-replicat
 use lib.Seq.{get_or-set_same, get_or-set_other, set_comm}
 use lib.Dec.{eqb}
 use borrow.Author.Tests.{eqb-true, eqb-false}
-use Rattle.rules.specs.declared.answers.Checked.{Checked}
-use Rattle.rules.specs.declared.answers.Checked.TheVariants as checked
 use Rattle.rules.specs.declared.answers.Reason.{Reason}
 use Rattle.rules.specs.Base.{refused, passed}
 use Rattle.rules.specs.Container.{payload}
@@ -259,14 +258,14 @@ module _ {file heads : List ℕ} {g : ℕ} (a : FunctionAsks file heads g) {r : 
       }
 
       module _ {m : Moved} (says : StepSays file g i (get_or saved i no_saved) m) where
-        pub slots_refused : (why : Reason) → m.checked ≡ checked.Refused why
+        pub slots_refused : (why : Reason) → m.checked ≡ Err why
             → sizes_of (program_in file) g (function_in file g) ≡ refused (refusal_of why)
         slots_refused why e =
             let z = slots_low in
             s.whole ∙ says.left s.arrows (s.standing_in.stands i (omega arith) (omega arith))
-            ∙ ap (λ (c : Checked). move_left file g m c s.arrows) e
+            ∙ ap (λ (c : Result Unit Reason). move_left file g m c s.arrows) e
 
-        module _ (e : m.checked ≡ checked.Right) where
+        module _ (e : m.checked ≡ Ok tt) where
           pub slots_on : i < m.on
           slots_on = (says.lands e).on
 
@@ -280,7 +279,7 @@ module _ {file heads : List ℕ} {g : ℕ} (a : FunctionAsks file heads g) {r : 
                 arrows = leaving (function_in file g) m ++ s.arrows;
                 whole =
                     s.whole ∙ says.left s.arrows (s.standing_in.stands i (omega arith) (omega arith))
-                    ∙ ap (λ (c : Checked). move_left file g m c s.arrows) e;
+                    ∙ ap (λ (c : Result Unit Reason). move_left file g m c s.arrows) e;
                 some_i = omega arith;
                 standing_in =
                     later file g _ _ i m.on (omega arith) (put_both file g saved s.arrows i m p (says.lands e) s.standing_in);

@@ -89,7 +89,7 @@ one_row bytes n w b fs h t c e =
 one_right : (bytes : List ℕ) (b : Bound) (w : ℕ) → w ≤ 255 → b.built ≡ true → b.count ≡ 1 → b.weight ≡ w → BoundRight bytes b
 unfolding row_in
 one_right bytes b w h t c e = record {
-  Some = omega arith;
+  some = omega arith;
   few = omega arith;
   there = λ k l z. absurd (false_true (sym z ∙ t));
   each = λ k l. rw (t, e) (record { four = refl; small = small; constant = le_trans h (omega arith) });

@@ -1,8 +1,7 @@
 -- What the steps of the walk ask and say.
 use Rattle.std.specs.Prelude.{if◌then◌else◌, ◌≡◌, List, [], ◌∷◌, ◌++◌, true, false, ℕ, ◌+◌, ◌≤◌, ◌<◌, length}
-use Rattle.std.specs.Prelude.{Option, None, Some}
-use Rattle.rules.specs.declared.answers.Checked.{Checked}
-use Rattle.rules.specs.declared.answers.Checked.TheVariants as checked
+use Rattle.std.specs.Prelude.{Option, None, Some, Result, Ok, Err}
+use Rattle.rules.specs.declared.answers.Reason.{Reason}
 use Rattle.rules.specs.declared.records.Instruction.{Instruction}
 use Rattle.rules.specs.Base.{refused, Check, byte_at}
 use Rattle.rules.specs.Container.{payload}
@@ -32,7 +31,7 @@ pub record StartIs (arity : ℕ) (st : Saved) : Type 0 where
   pub list : length st.list ≡ 16
 
 pub record StayIs (on : ℕ) (m : Moved) : Type 0 where
-  pub right : m.checked ≡ checked.Right
+  pub right : m.checked ≡ Ok tt
   pub next : m.next.visited ≡ false
   pub near : m.near ≡ 0
   pub other : m.other.visited ≡ false
@@ -79,10 +78,10 @@ abbrev pub leaving : Function → Moved → List (Arrow Shape)
 leaving f m = given m.next.visited (m.near, shape_in f m.next) (given m.other.visited (m.far, shape_in f m.other) [])
 
 -- what is left of the walk behind a step that passed
-abbrev pub move_left : List ℕ → ℕ → Moved → Checked → List (Arrow Shape) → Check
-move_left file g m checked.Right arrows =
+abbrev pub move_left : List ℕ → ℕ → Moved → Result Unit Reason → List (Arrow Shape) → Check
+move_left file g m (Ok tt) arrows =
     left_from (program_in file) g (function_in file g) m.on (leaving (function_in file g) m ++ arrows)
-move_left file g m (checked.Refused why) arrows = refused (refusal_of why)
+move_left file g m (Err why) arrows = refused (refusal_of why)
 
 -- where the states go
 pub record Lands (file : List ℕ) (g i : ℕ) (m : Moved) : Type 0 where
@@ -96,4 +95,4 @@ pub record Lands (file : List ℕ) (g i : ℕ) (m : Moved) : Type 0 where
 pub record StepSays (file : List ℕ) (g i : ℕ) (st : Saved) (m : Moved) : Type 0 where
   pub left : (arrows : List (Arrow Shape)) → first (arriving i arrows) ≡ standing (function_in file g) st
       → left_from (program_in file) g (function_in file g) i arrows ≡ move_left file g m m.checked arrows
-  pub lands : m.checked ≡ checked.Right → Lands file g i m
+  pub lands : m.checked ≡ Ok tt → Lands file g i m

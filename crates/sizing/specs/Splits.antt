@@ -76,7 +76,7 @@ shape_of f ps count stack = record {
 pub record Tidy (n k : ℕ) (a : Alternative) : Type 0 where
   pub wide : Wide a
   pub most : (i : ℕ) → coefficient a i ≤ 15
-  pub None : (i : ℕ) → n ≤ i → coefficient a i ≡ 0
+  pub none : (i : ℕ) → n ≤ i → coefficient a i ≡ 0
   pub constant : a.constant ≤ k
 
 -- tidy, or one variable that has not come up

@@ -27,7 +27,7 @@ abbrev pub top_of : Saved → ℕ
 top_of st = get_or st.stack (st.height - 1) 0
 
 pub record BranchAsks (st : Saved) (c parts : ℕ) : Type 0 where
-  pub Some : 0 < st.height
+  pub some : 0 < st.height
   pub high : st.height ≤ 16
   pub fits : st.height + parts ≤ 17
   pub few : st.taken ≤ 16

@@ -1,5 +1,5 @@
 // The walk over a function's code in file order, and over all functions.
-ghost use Rattle.std.specs.Prelude.{if◌then◌else◌, ◌≡◌, List, ℕ, ◌≤◌};
+ghost use Rattle.std.specs.Prelude.{if◌then◌else◌, ◌≡◌, List, ℕ, ◌≤◌, Err};
 ghost use Rattle.rules.specs.Answers.{told};
 ghost use Rattle.rules.specs.Records.{program_in, function_in};
 ghost use Rattle.rules.specs.Shapes.{sizes_of, sizes_right};
@@ -11,15 +11,16 @@ use crate::line::{Straight, straight_line};
 use crate::paths::{Saved, branch_variable, load_variable, unvisited};
 use crate::routines::{Routine, routine_at};
 use crate::splits::Split;
+use program::Layout;
 use readers::{constructor_declaration, instruction, instruction_offset, wide};
-use rules::answers::{Checked, Place, Reason};
-use rules::records::{Header, Instruction};
+use rules::answers::{Place, Reason};
+use rules::records::Instruction;
 
 // What leaves an instruction: a state for the slot of the next one and one for that of the else target, or for slot 0, which
 // is never read, where they are not visited; and the instruction to go on at.
 #[derive(Clone, Copy)]
 pub struct Moved {
-    pub checked: Checked,
+    pub checked: Result<(), Reason>,
     pub next: Saved,
     pub near: usize,
     pub other: Saved,
@@ -52,7 +53,7 @@ fn stay(on: usize) -> Moved
     ensures { StayIs on result }
 {
     Moved {
-        checked: Checked::Right,
+        checked: Ok(()),
         next: unvisited(),
         near: 0,
         other: unvisited(),
@@ -62,10 +63,10 @@ fn stay(on: usize) -> Moved
 }
 
 fn refuse(reason: Reason) -> Moved
-    ensures { result.checked ≡ Checked.Refused reason }
+    ensures { result.checked ≡ Err reason }
 {
     Moved {
-        checked: Checked::Refused(reason),
+        checked: Err(reason),
         next: unvisited(),
         near: 0,
         other: unvisited(),
@@ -100,7 +101,7 @@ fn branch(file: &[u8], g: usize, i: usize, st: Saved, c: u8, b: u16) -> Moved
     let next = r.next;
     let other = r.other;
     Moved {
-        checked: Checked::Right,
+        checked: Ok(()),
         next: next,
         near: slot_for(next.visited, i + 1),
         other: other,
@@ -132,7 +133,7 @@ fn step(file: &[u8], heads: &[usize; 32], g: usize, f: Routine, i: usize, st: Sa
     let ins = instruction(file, instruction_offset(f.base, i - 1));
     match ins {
         Instruction::Load(a) => Moved {
-            checked: Checked::Right,
+            checked: Ok(()),
             next: load_variable(st, wide(a) - 1),
             near: i + 1,
             other: unvisited(),
@@ -147,7 +148,7 @@ fn step(file: &[u8], heads: &[usize; 32], g: usize, f: Routine, i: usize, st: Sa
 }
 
 // Function g: a slot for each instruction holds what arrives there.
-fn function_sizes(file: &[u8], heads: &[usize; 32], g: usize) -> Checked
+fn function_sizes(file: &[u8], heads: &[usize; 32], g: usize) -> Result<(), Reason>
     requires { FunctionAsks file.now heads.now g }
     ensures { told result ≡ sizes_of (program_in file.now) g (function_in file.now g) }
 {
@@ -160,8 +161,8 @@ fn function_sizes(file: &[u8], heads: &[usize; 32], g: usize) -> Checked
         let st = saved[i];
         let m = step(file, heads, g, f, i, st);
         let checked = m.checked;
-        if let Checked::Refused(reason) = checked {
-            return Checked::Refused(reason);
+        if let Err(reason) = checked {
+            return Err(reason);
         }
         let near = m.near;
         let next = m.next;
@@ -171,22 +172,16 @@ fn function_sizes(file: &[u8], heads: &[usize; 32], g: usize) -> Checked
         saved[far] = other;
         i = m.on;
     }
-    Checked::Right
+    Ok(())
 }
 
 // For the crates above: 10 and 9 over all functions.
-pub fn sizes(file: &[u8], header: Header, heads: &[usize; 32]) -> Checked
-    requires { Typechecked file.now × LaidOut file.now header heads.now }
+pub fn sizes(file: &[u8], layout: &Layout) -> Result<(), Reason>
+    requires { Typechecked file.now × LaidOut file.now layout.now.header layout.now.heads }
     ensures { told result ≡ sizes_right (program_in file.now) }
 {
-    let m = header.functions as usize;
-    let mut g: usize = 0;
-    while g < m {
-        let r = function_sizes(file, heads, g);
-        if let Checked::Refused(reason) = r {
-            return Checked::Refused(reason);
-        }
-        g += 1;
+    for g in 0..usize::from(layout.header.functions) {
+        function_sizes(file, &layout.heads, g)?;
     }
-    Checked::Right
+    Ok(())
 }

@@ -1,5 +1,7 @@
 -- The slots hold what arrives at each instruction, and the whole walk comes out as what is left of it.
-use mathlib.Core.Path.{sym}
+use Rattle.std.specs.Prelude.{Result, Ok, Err}
+use Rattle.rules.specs.declared.answers.Reason.{Reason}
+use mathlib.Core.Path.{◌≡◌, sym, refl}
 use native.Mathlib.Omega.{arith}
 use Rattle.rules.specs.Container.{payload}
 use Rattle.rules.specs.Records.{head_offset}
@@ -8,6 +10,10 @@ use Rattle.sizing.proofs.SlotLaws.{routine_few, slots_start, slots_end, slots_lo
 use Rattle.sizing.proofs.SlotLaws.{slots_near, slots_next}
 use Rattle.sizing.proofs.walk.function_sizes.Goals.{After-routine_at-f}
 use Rattle.sizing.proofs.walk.function_sizes.Goals as goal
+
+is_passed : (r : Result Unit Reason) → ((x : Reason) → r ≡ Err x → ⊥) → r ≡ Ok tt
+is_passed (Ok x) n = refl
+is_passed (Err x) n = absurd (n x refl)
 
 ---- What is known at a place of the code
 routine : (c : After-routine_at-f) → let a =
@@ -50,11 +56,11 @@ pub step-m-requires : goal.step-m-requires
 step-m-requires c =
     slots_asks c.requires (routine (goal.at.step-m-requires c).After-routine_at-f) c.loop-i.invariant c.loop-i-test.true
 
-pub returns-in-Refused : goal.returns-in-Refused
-returns-in-Refused c =
-    sym (slots_refused c.requires (routine (goal.at.returns-in-Refused c).After-routine_at-f) c.loop-i.invariant c.loop-i-test.true
+pub returns-in-Err : goal.returns-in-Err
+returns-in-Err c =
+    sym (slots_refused c.requires (routine (goal.at.returns-in-Err c).After-routine_at-f) c.loop-i.invariant c.loop-i-test.true
     c.step-m.ensures
-    c.in-Refused.reason c.in-Refused.is)
+    c.in-Err.reason c.in-Err.is)
 
 pub offset_bounds-saved-near : goal.offset_bounds-saved-near
 offset_bounds-saved-near c =
@@ -62,26 +68,26 @@ offset_bounds-saved-near c =
       arith,
       (slots_near c.requires (routine
           (goal.at.offset_bounds-saved-near c).After-routine_at-f) c.loop-i.invariant c.loop-i-test.true c.step-m.ensures
-          c.in_default.is).0,
+          (is_passed _ c.in_default.not-Err)).0,
     )
 
 pub bounds-saved-near : goal.bounds-saved-near
 bounds-saved-near c =
     (slots_near c.requires (routine (goal.at.bounds-saved-near c).After-routine_at-f) c.loop-i.invariant c.loop-i-test.true c.step-m.ensures
-    c.in_default.is).0
+    (is_passed _ c.in_default.not-Err)).0
 
 pub offset_bounds-saved-far : goal.offset_bounds-saved-far
 offset_bounds-saved-far c =
     omega (
       arith,
       (slots_near c.requires (routine
-          (goal.at.offset_bounds-saved-far c).After-routine_at-f) c.loop-i.invariant c.loop-i-test.true c.step-m.ensures c.in_default.is).1,
+          (goal.at.offset_bounds-saved-far c).After-routine_at-f) c.loop-i.invariant c.loop-i-test.true c.step-m.ensures (is_passed _ c.in_default.not-Err)).1,
     )
 
 pub bounds-saved-far : goal.bounds-saved-far
 bounds-saved-far c =
     (slots_near c.requires (routine (goal.at.bounds-saved-far c).After-routine_at-f) c.loop-i.invariant c.loop-i-test.true c.step-m.ensures
-    c.in_default.is).1
+    (is_passed _ c.in_default.not-Err)).1
 
 pub loop-i-smaller : goal.loop-i-smaller
 loop-i-smaller c =
@@ -89,13 +95,13 @@ loop-i-smaller c =
     omega (
       arith,
       slots_on c.requires (routine
-          (goal.at.loop-i-smaller c).After-routine_at-f) c.loop-i.invariant c.loop-i-test.true c.step-m.ensures c.in_default.is,
+          (goal.at.loop-i-smaller c).After-routine_at-f) c.loop-i.invariant c.loop-i-test.true c.step-m.ensures (is_passed _ c.in_default.not-Err),
     )
 
 pub loop-i-preserved : goal.loop-i-preserved
 loop-i-preserved c =
     slots_next c.requires (routine (goal.at.loop-i-preserved c).After-routine_at-f) c.loop-i.invariant c.loop-i-test.true c.step-m.ensures
-    c.in_default.is
+    (is_passed _ c.in_default.not-Err)
 
 pub returns : goal.returns
 returns c =

@@ -1,41 +1,32 @@
 -- The loop keeps that what is left of the pass is the functions from g on.
-use mathlib.Core.Path.{sym, ◌∙◌}
-use native.Mathlib.Omega.{arith}
+use Rattle.std.proofs.Common.{sym, ◌∙◌, arith}
+use Rattle.std.proofs.lemmas.Result.{err_from_is_err_and}
 use Rattle.rules.specs.Records.{program_in}
 use Rattle.rules.specs.Shapes.{sizes_of, sizes_right}
-use Rattle.rules.proofs.PassLaws.{pass_first, pass_stop, pass_next, pass_end, told_as}
-use Rattle.program.proofs.LayoutLaws.{functions_few, functions_pass}
+use Rattle.rules.proofs.PassLaws.{pass_first, pass_stop, pass_next, pass_end}
+use Rattle.program.proofs.LayoutLaws.{functions_pass}
 use Rattle.sizing.proofs.SizesLaws.{sizes_asks}
 use Rattle.sizing.proofs.walk.sizes.Goals as goal
 
 pub loop-g-init : goal.loop-g-init
 loop-g-init c = pass_first
 
-pub function_sizes-r-requires : goal.function_sizes-r-requires
-function_sizes-r-requires c =
-    sizes_asks c.requires.0 c.requires.1 (λ k. omega (arith, c.type_inv.file k))
-    c.loop-g.g c.loop-g-test.true
+pub function_sizes-requires : goal.function_sizes-requires
+function_sizes-requires c =
+    sizes_asks c.requires.0 c.requires.1 (λ k. omega (arith, c.type_inv.file k)) c.loop-g.g (omega arith)
 
-pub returns-in-Refused : goal.returns-in-Refused
+pub returns-in_err-function_sizes : goal.returns-in_err-function_sizes
 unfolding sizes_right
-returns-in-Refused c =
-    pass_stop c.loop-g.invariant c.loop-g-test.true
-    (told_as c.function_sizes-r.ensures c.in-Refused.is)
-    ∙ sym (functions_pass c.requires.1.headed (sizes_of (program_in _)))
-
-pub overflow_add-g : goal.overflow_add-g
-overflow_add-g c = omega (arith, functions_few c.requires.1.headed)
-
-pub loop-g-smaller : goal.loop-g-smaller
-loop-g-smaller c = omega arith
+returns-in_err-function_sizes c =
+    let p = err_from_is_err_and c.from_residual.result c.from_residual.ensures.1 in
+    rw (p.1, p.2) (pass_stop c.loop-g.invariant (omega arith) (sym c.in_err-function_sizes.ensures)
+    ∙ sym (functions_pass c.requires.1.headed (sizes_of (program_in _))))
 
 pub loop-g-preserved : goal.loop-g-preserved
-loop-g-preserved c =
-    pass_next c.loop-g.invariant c.loop-g-test.true
-    (told_as c.function_sizes-r.ensures c.in_default.is)
+loop-g-preserved c = pass_next c.loop-g.invariant (omega arith) (sym c.in_ok-function_sizes.ensures)
 
 pub returns : goal.returns
 unfolding sizes_right
 returns c =
-    pass_end c.loop-g.invariant c.loop-g-test.false
+    pass_end c.loop-g.invariant (omega arith)
     ∙ sym (functions_pass c.requires.1.headed (sizes_of (program_in _)))
