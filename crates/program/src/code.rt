@@ -6,7 +6,7 @@ ghost use Rattle.rules.specs.Records.{code_offset};
 ghost use Rattle.rules.specs.Established.{Verified};
 ghost use Rattle.rules.specs.There.{FunctionThere};
 
-use readers::{alternative_offset, head, wide};
+use readers::{alternative_offset, head};
 
 // The offset of the first instruction, and the number of the last.
 #[derive(Clone, Copy)]
@@ -23,7 +23,7 @@ pub fn code_at(file: &[u8], at: usize) -> Code
 {
     let h = head(file, at);
     Code {
-        base: alternative_offset(at, wide(h.alternatives)),
-        last: h.instructions as usize,
+        base: alternative_offset(at, usize::from(h.alternatives)),
+        last: usize::from(h.instructions),
     }
 }

@@ -1,17 +1,54 @@
--- `open` meets its contract: the header, then what stands behind it.
-use Rattle.program.proofs.OpenLaws.{open_cut, open_header, open_goes}
-use mathlib.Core.Path.{ap}
-use mathlib.Core.Bool.{not}
+-- `open` meets its contract: the header, the constructors, the functions one after the other, and then the end of the payload.
+use Rattle.std.proofs.Common.{arith, refl}
+use Rattle.std.proofs.lemmas.Result.{err_from_is_err_and}
+use Rattle.program.proofs.OpenLaws.{scan_stop, scan_next}
+use Rattle.program.proofs.OpenLaws.{open_cut, open_header, open_few, open_constructors, open_first, open_functions, open_end, open_right, open_laid}
 use Rattle.program.proofs.opening.open.Goals as goal
 
-pub returns-then-n-lt4 : goal.returns-then-n-lt4
-returns-then-n-lt4 c = open_cut c.requires c.if-n-lt4.true c.not_open.ensures
+pub returns-then-n-lt4-clause-says : goal.returns-then-n-lt4-clause-says
+returns-then-n-lt4-clause-says c = open_cut c.requires c.if-n-lt4.true
 
-pub returns-then-not-header_right : goal.returns-then-not-header_right
-returns-then-not-header_right c =
-    open_header c.requires c.if-n-lt4.false c.header-h.ensures c.header_right.ensures (ap not c.if-not-header_right.true)
-    c.not_open-then-not-header_right.ensures
+pub returns-then-not-header_right-clause-says : goal.returns-then-not-header_right-clause-says
+returns-then-not-header_right-clause-says c =
+    open_header c.requires c.if-n-lt4.false c.header-header.ensures c.header_right.ensures c.if-not-header_right.true
 
-pub open_behind-requires : goal.open_behind-requires
-open_behind-requires c =
-    open_goes c.requires c.if-n-lt4.false c.header-h.ensures c.header_right.ensures (ap not c.if-not-header_right.false)
+pub returns-in_err-check_constructors-clause-says : goal.returns-in_err-check_constructors-clause-says
+returns-in_err-check_constructors-clause-says c =
+    let p = err_from_is_err_and c.from_residual.result c.from_residual.ensures.1 in
+    rw (p.1, p.2) (open_constructors c.requires c.if-n-lt4.false c.header-header.ensures c.header_right.ensures
+    c.if-not-header_right.false c.in_err-check_constructors.ensures)
+
+pub loop-g-init : goal.loop-g-init
+loop-g-init c =
+    open_first c.requires c.if-n-lt4.false c.header-header.ensures c.header_right.ensures c.if-not-header_right.false
+    c.from.ensures c.constructor_offset-at.ensures (omega arith) refl
+
+pub bounds-heads-g : goal.bounds-heads-g
+bounds-heads-g c =
+    let few = open_few c.requires c.if-n-lt4.false c.header-header.ensures c.header_right.ensures c.if-not-header_right.false in
+    omega arith
+
+pub returns-in_err-at-clause-says : goal.returns-in_err-at-clause-says
+returns-in_err-at-clause-says c =
+    let r = c.from_residual-in_err-at in
+    let p = err_from_is_err_and r.result r.ensures.1 in
+    rw (p.1, p.2) (open_functions c.requires c.if-n-lt4.false c.header-header.ensures c.header_right.ensures
+    c.if-not-header_right.false c.in_ok-check_constructors.ensures (scan_stop c.loop-g.invariant (omega arith) c.in_err-at.ensures.says))
+
+pub loop-g-preserved : goal.loop-g-preserved
+loop-g-preserved c =
+    let few = open_few c.requires c.if-n-lt4.false c.header-header.ensures c.header_right.ensures c.if-not-header_right.false in
+    scan_next c.loop-g.invariant (omega arith) c.in_ok-at.ensures.says c.in_ok-at.ensures.behind few
+
+pub returns-then-at-n-clause-says : goal.returns-then-at-n-clause-says
+returns-then-at-n-clause-says c =
+    open_end c.requires c.if-n-lt4.false c.header-header.ensures c.header_right.ensures c.if-not-header_right.false
+    c.in_ok-check_constructors.ensures c.loop-g.invariant (omega arith) c.if-at-n.true
+
+pub returns : goal.returns
+returns c = record {
+  says = open_right c.requires c.if-n-lt4.false c.header-header.ensures c.header_right.ensures c.if-not-header_right.false
+      c.in_ok-check_constructors.ensures c.loop-g.invariant (omega arith) c.if-at-n.false;
+  program = open_laid c.requires c.if-n-lt4.false c.header-header.ensures c.header_right.ensures c.if-not-header_right.false
+      c.in_ok-check_constructors.ensures c.loop-g.invariant (omega arith) c.if-at-n.false;
+}
