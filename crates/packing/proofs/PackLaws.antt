@@ -1,22 +1,22 @@
 -- What pack and unpack answer, and a block and its check as they are written.
 use mathlib.Core.Path.{◌≡◌, refl, sym, ap, ◌∙◌}
-use mathlib.Core.List.{List, [], ◌∷◌, ◌++◌, append-nil, append_assoc}
+use mathlib.Core.List.{List, ◌++◌, append-nil, append_assoc}
 use mathlib.Core.Bool.{false}
 use Prim.Native.Nat.{ℕ, zero, suc, ◌+◌, ◌*◌, ◌-◌, ◌/◌, ◌≤◌, ◌<◌, min}
 use native.Mathlib.Omega.{arith}
 use native.Mathlib.Nat.{add-zero, add-suc, suc-add, zero-add}
-use lib.ListN.{length, take, drop, replicate, length-append, length-take, length-drop}
-use lib.Seq.{take_all, drop-drop}
+use lib.ListN.{length, take, drop, replicate, length-append, length-take, length-drop, length-replicate}
+use lib.Seq.{take_all, take_at, drop-drop}
 use native.Mathlib.Decide.{dec_le}
-use borrow.Rule.Slice.PartMut.{put_mid}
+use borrow.Rule.Slice.PartMut.{put_mid, mid_of, post_of}
 use borrow.Author.Tests.{le-leb, lt-leb}
 use Rattle.rules.specs.Base.{Refusal, refusal, found, refused, within}
 use Rattle.rules.specs.Container.{weighed, checksum, bytes2, bytes4, block_body, block, blocks_of, block_count, packed, pack, verified}
 use Rattle.rules.specs.Container.{unpack}
-use Rattle.rules.specs.Memory.{front_written, overwritten}
+use Rattle.rules.specs.Memory.{front_written}
 use Rattle.rules.proofs.ContainerLaws.{body_length, block_length, blocks_length}
 use Rattle.rules.proofs.WriteLaws.{front_grown, front_whole}
-use Rattle.packing.specs.Written.{Put}
+use Rattle.std.specs.Int.{w16, w32, to_le_bytes}
 
 ---- The answers
 
@@ -47,18 +47,6 @@ module _ (file : List ℕ) (room : ℕ) {bytes : List ℕ} (e : verified file �
   unfolding unpack
   unpack_fits h = rw (e, le-leb _ _ h)
 
----- The sum of a block
-
-weighed_append : (k : ℕ) (a b : List ℕ) → weighed k (a ++ b) ≡ weighed k a + weighed (k + length a) b
-unfolding weighed
-weighed_append k [] b = rw add-zero (omega arith)
-weighed_append k (x ∷ a) b = rw (weighed_append (suc k) a b, suc-add, add-suc) (omega arith)
-
-weighed_zeros : (k n : ℕ) → weighed k (replicate n 0) ≡ 0
-unfolding weighed
-weighed_zeros k zero = refl
-weighed_zeros k (suc n) = rw (weighed_zeros (suc k) n) (omega arith)
-
 ---- A block
 
 module _ (k : ℕ) (part : List ℕ) (h : length part ≤ 504) where
@@ -66,35 +54,50 @@ module _ (k : ℕ) (part : List ℕ) (h : length part ≤ 504) where
   unfolding checksum
   check_whole = ap (weighed 1) (take_all 508 (block_body k part) (omega (arith, body_length k part h)))
 
-  -- the zeros add nothing
-  body_check : checksum (block_body k part) ≡ weighed 1 (bytes2 k ++ bytes2 (length part)) + weighed 5 part
-  unfolding block_body
-  body_check =
-      let head : List ℕ = bytes2 k ++ bytes2 (length part) in
-      let zeros : List ℕ = replicate (504 - length part) 0 in
-      check_whole ∙ weighed_append 1 (head ++ part) zeros
-      ∙ omega (arith, weighed_append 1 head part, weighed_zeros (1 + length (head ++ part)) (504 - length part))
+-- bytes behind a front, as a write to a part of the slice leaves them
+front_put : {o c : List ℕ} (w b out : List ℕ) (a m : ℕ) → o ≡ front_written w out → c ≡ b → a ≡ length w → m ≡ length b
+    → put_mid a m o c ≡ front_written (w ++ b) out
+front_put w b out a m eo ec ea em = rw (eo, ec, ← append_assoc, em, drop-drop) (front_grown w b out a ea)
 
--- a block that is written part by part, its check summed on the way
-pub block_written : (k : ℕ) (part : List ℕ) {o₀ o₁ o₂ o₃ o₄ : List ℕ} {s₁ s₂ t : ℕ} → length part ≤ 504 → length o₀ ≡ 512
-    → Put o₀ 0 (bytes2 k ++ bytes2 (length part)) 0 o₁ s₁ → Put o₁ 4 part s₁ o₂ s₂
-    → o₃ ≡ overwritten o₂ (4 + length part) (replicate (508 - (4 + length part)) 0)
-    → Put o₃ 508 (bytes2 s₂ ++ bytes2 (s₂ / 65536)) 0 o₄ t → o₄ ≡ block k part
-unfolding block block_body
-block_written k part {o₀} {o₁} {o₂} {o₃} {o₄} {s₁} {s₂} h l p₁ p₂ z p₃ =
-    let head : List ℕ = bytes2 k ++ bytes2 (length part) in
-    let zeros : List ℕ = replicate (504 - length part) 0 in
-    let f₁ : o₁ ≡ front_written head o₀ = p₁.written in
-    let f₂ : o₂ ≡ front_written (head ++ part) o₀ = p₂.written ∙ rw f₁ (front_grown head part o₀ 4 refl) in
-    let m : 508 - (4 + length part) ≡ 504 - length part = omega arith in
-    let f₃ : o₃ ≡ front_written (head ++ part ++ zeros) o₀ = z
-    ∙ rw (f₂, m) (front_grown (head ++ part) zeros o₀ (4 + length part) (sym (length-append head part))) in
-    let check : s₂ ≡ checksum (block_body k part) = omega (arith, p₁.summed, p₂.summed, body_check k part h) in
-    let f₄ : o₄ ≡ front_written (block_body k part ++ bytes4 s₂) o₀ = p₃.written
-    ∙ rw f₃ (front_grown (block_body k part) (bytes4 s₂) o₀ 508 (sym (body_length k part h))) in
-    let long : length (block_body k part ++ bytes4 s₂) ≡ 512 = length-append (block_body k part) (bytes4 s₂)
-    ∙ omega (arith, body_length k part h) in
-    f₄ ∙ front_whole (block_body k part ++ bytes4 s₂) o₀ (omega (arith, long)) ∙ ap (λ (n : ℕ). block_body k part ++ bytes4 n) check
+-- a number in four bytes
+four_bytes : (n : ℕ) → to_le_bytes w32 n ≡ bytes4 n
+four_bytes n = let e : n / 16777216 ≡ n / 65536 / 256 = omega arith in rw e
+
+-- a block's parts as they are written: its number, its used count and its part of the payload, then zeros
+abbrev begun : ℕ → List ℕ → List ℕ → List ℕ → List ℕ → List ℕ
+begun used number count part out = put_mid 4 (4 + used - 4) (put_mid 2 2 (number ++ post_of 0 2 out) count) part
+
+abbrev filled : ℕ → List ℕ → List ℕ → List ℕ
+filled used zeros out = put_mid (4 + used) (508 - (4 + used)) out zeros
+
+-- a block that is written part by part, its checksum last
+pub block_written : (k : ℕ) (part out : List ℕ) {number count part' zeros check : List ℕ} {s : ℕ} → length part ≤ 504 → length out ≡ 512
+    → number ≡ to_le_bytes w16 k → count ≡ to_le_bytes w16 (length part) → part' ≡ part
+    → zeros ≡ replicate (length (mid_of (4 + length part) (508 - (4 + length part)) (begun (length part) number count part' out))) 0
+    → s ≡ checksum (filled (length part) zeros (begun (length part) number count part' out)) → check ≡ to_le_bytes w32 s
+    → put_mid 508 4 (filled (length part) zeros (begun (length part) number count part' out)) check ≡ block k part
+unfolding block block_body checksum
+block_written k part out {number} {count} {part'} {zeros} {check} {s} h l e₁ e₂ e₃ e₄ sum e₅ =
+    let u = length part in
+    let head : List ℕ = bytes2 k ++ bytes2 u in
+    let body : List ℕ = block_body k part in
+    let f₁ : number ++ post_of 0 2 out ≡ front_written (bytes2 k) out = rw e₁ in
+    let f₂ = front_put (bytes2 k) (bytes2 u) out 2 2 f₁ e₂ refl refl in
+    let f₃ : begun u number count part' out ≡ front_written (head ++ part) out = front_put head part out 4 (4 + u - 4) f₂ e₃ refl
+    (omega arith) in
+    let long : length (mid_of (4 + u) (508 - (4 + u)) (front_written (head ++ part) out)) ≡ 504 - u =
+    simp (length-take, length-drop, length-append) (omega arith) in
+    let zero : zeros ≡ replicate (504 - u) 0 = rw (e₄, f₃, long) in
+    let f₄ : filled u zeros (begun u number count part' out) ≡ front_written body out =
+    front_put (head ++ part) (replicate (504 - u) 0) out (4 + u) (508 - (4 + u)) f₃ zero (sym (length-append head part))
+    (simp length-replicate (omega arith)) in
+    let right : s ≡ checksum body = sum ∙ ap checksum f₄ ∙ ap (weighed 1) (take_at body _ 508 (body_length k part h))
+    ∙ sym (check_whole k part h) in
+    let f₅ = front_put body (bytes4 s) out 508 4 f₄ (e₅ ∙ four_bytes s) (sym (body_length k part h)) refl in
+    let whole : length (body ++ bytes4 s) ≡ 512 = length-append body (bytes4 s) ∙ omega (arith, body_length k part h) in
+    let end : front_written (body ++ bytes4 s) out ≡ body ++ bytes4 (checksum body) =
+    front_whole (body ++ bytes4 s) out (omega (arith, whole)) ∙ ap (λ (j : ℕ). body ++ bytes4 j) right in
+    ◌∙◌ {b = front_written (body ++ bytes4 s) out} f₅ end
 
 ---- All blocks
 
@@ -122,14 +125,4 @@ blocks_next k m w p out out₀ {b} e em ew eb =
     let rest : List ℕ = drop (504 * k) p in
     let is : b ≡ block k (take 504 rest) = eb ∙ ap (block k) (part_taken w rest (rw length-drop ew)) in
     let long : m ≡ length b = em ∙ sym (ap length is ∙ block_length k (take 504 rest) (simp length-take (omega arith))) in
-    rw (
-      ← append_assoc,
-      long,
-      drop-drop,
-      e,
-      front_grown (blocks_of k 0 p) b out₀ (512 * k)
-          (sym (blocks_length k 0 p)),
-      blocks_more k 0 p,
-      zero-add,
-      is,
-    )
+    front_put (blocks_of k 0 p) b out₀ (512 * k) m e refl (sym (blocks_length k 0 p)) long ∙ rw (blocks_more k 0 p, zero-add, is)

@@ -1,7 +1,6 @@
 -- `packing::unpacking::copy_payload` meets its contract: the payload's bytes are pasted one by one. Assumes nothing.
-use mathlib.Core.Path.{refl}
+use Rattle.std.proofs.Common.{refl, arith}
 use native.Mathlib.Nat.{zero-add}
-use native.Mathlib.Omega.{arith}
 use Rattle.rules.proofs.WriteLaws.{pasted_start, pasted_next, pasted_end}
 use Rattle.packing.proofs.unpacking.copy_payload.Goals as goal
 
@@ -12,22 +11,10 @@ pub payload_byte-requires : goal.payload_byte-requires
 payload_byte-requires c =
     (c.requires.0.verified, omega (arith, c.requires.0.long))
 
-pub bounds-out-k : goal.bounds-out-k
-bounds-out-k c = omega (arith, c.loop-k.invariant.same, c.requires.0.long)
-
-pub overflow_add-k : goal.overflow_add-k
-overflow_add-k c = omega arith
-
-pub loop-k-smaller : goal.loop-k-smaller
-loop-k-smaller c = omega arith
-
 pub loop-k-preserved : goal.loop-k-preserved
 loop-k-preserved c =
     pasted_next c.loop-k.invariant (omega (arith, c.requires.0.long)) refl (omega arith)
     c.payload_byte.ensures
-
-pub shape_of-out : goal.shape_of-out
-shape_of-out c = c.loop-k.invariant.same
 
 pub returns : goal.returns
 returns c = rw zero-add at (pasted_end c.loop-k.invariant (omega (arith, c.requires.0.long)))

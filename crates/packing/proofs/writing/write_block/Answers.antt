@@ -1,14 +1,10 @@
 -- `packing::writing::write_block` meets its contract: its parts stand one behind the other, and the sum is their checksum. Assumes nothing.
+use Rattle.std.proofs.Common.{◌∙◌}
 use Rattle.packing.proofs.PackLaws.{block_written}
 use Rattle.packing.proofs.writing.write_block.Goals as goal
 
 pub returns : goal.returns
 returns c =
-    let head = c.two_words-head in
-    let first = c.put-head_sum in
-    let second = c.put-checksum in
-    let zeros = c.clear in
-    let tail = c.two_words-tail in
-    let third = c.put in
-    block_written _ _ c.requires.0 c.requires.1 (rw head.ensures at first.ensures) second.ensures zeros.ensures
-    (rw tail.ensures at third.ensures)
+    block_written c.args.k c.args.part.now c.args.out.now c.requires.0 c.requires.2 (c.copy_from_slice.ensures.after ∙ c.to_le_bytes.ensures)
+    (c.copy_from_slice-2.ensures.after ∙ c.to_le_bytes-2.ensures) c.copy_from_slice-3.ensures.after (c.fill.ensures.after (λ y e. e)) c.checksum-sum.ensures
+    (c.copy_from_slice-4.ensures.after ∙ c.to_le_bytes-3.ensures)
