@@ -26,6 +26,7 @@ use Rattle.rules.proofs.RecordLaws.{arguments_length, records_there}
 use Rattle.rules.proofs.MachineLaws.{bind_some}
 use Rattle.rules.proofs.ContainerLaws.{verified_place, verified_byte}
 use Rattle.rules.proofs.PrefixLaws.{arity_is}
+use Rattle.fetch.specs.declared.index.Index.{Index}
 use Rattle.fetch.specs.Indexed.{Indexed, constructor_arity, function_arity, arity_at, code_at}
 use Rattle.fetch.specs.Places.{StandsAt}
 use Rattle.fetch.specs.Arities.{inputs, place, NumbersInRange}
@@ -172,7 +173,7 @@ module _ {file : List ℕ} (parsed : Parsed file) where
 
 ---- An indexed one
 
-module _ (file index : List ℕ) (ok : Indexed file index) where
+module _ (file : List ℕ) (index : Index) (ok : Indexed file index) where
   -- where the arity of a function stands
   pub inputs_stand : (f place : ℕ) → f < byte_at (payload file) 3 → place ≡ arity_at index f
       → (place < length file) × (byte_at file place ≡ function_arity file f)

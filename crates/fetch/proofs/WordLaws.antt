@@ -15,15 +15,10 @@ use Rattle.fetch.proofs.PlaceLaws.{offset_place}
 
 -- the bytes that were read are the record
 pub word_there : (bytes : List ℕ) (k a b c d w : ℕ) → a ≡ byte_at bytes k → b ≡ byte_at bytes (k + 1) → c ≡ byte_at bytes (k + 2)
-    → d ≡ byte_at bytes (k + 3) → (w ≡ a + 256 * b + 65536 * c + 16777216 * d) × (a < 256) × (b < 256)
-    → WordThere bytes k w
-word_there bytes k a b c d w ea eb ec ed j =
-    let e : k + 2 + 1 ≡ k + 3 = omega arith in
-    record {
-      is = rw e (omega (arith, j.0));
-      first_small = omega (arith, j.1);
-      second_small = omega (arith, j.2);
-    }
+    → d ≡ byte_at bytes (k + 3) → a < 256 → b < 256 → w ≡ a + b * 256 + c * 65536 + d * 16777216 → WordThere bytes k w
+word_there bytes k a b c d w ea eb ec ed sa sb e =
+    let f : k + 2 + 1 ≡ k + 3 = omega arith in
+    record { is = rw f (omega arith); first_small = omega arith; second_small = omega arith }
 
 -- a record that lies in one block: its bytes at its place and the three after it
 module _ {file : List ℕ} (v : Verified file) (at : ℕ) (h : Inside at) (whole : offset_at at + 4 ≤ length (payload file))
@@ -38,10 +33,9 @@ module _ {file : List ℕ} (v : Verified file) (at : ℕ) (h : Inside at) (whole
   pub block_first : get_or file at 0 ≡ byte_at (payload file) (offset_at at)
   block_first = rw (add-zero, add-zero) at (block_byte 0 (omega arith))
 
-  pub block_word : {w : ℕ}
-      → (w ≡ get_or file at 0 + 256 * get_or file (at + 1) 0 + 65536 * get_or file (at + 2) 0 + 16777216 * get_or file (at + 3) 0)
-      × (get_or file at 0 < 256) × (get_or file (at + 1) 0 < 256)
+  pub block_word : {w : ℕ} → get_or file at 0 < 256 → get_or file (at + 1) 0 < 256
+      → w ≡ get_or file at 0 + get_or file (at + 1) 0 * 256 + get_or file (at + 2) 0 * 65536 + get_or file (at + 3) 0 * 16777216
       → WordThere (payload file) (offset_at at) w
-  block_word j =
+  block_word sa sb e =
       word_there (payload file) (offset_at at) _ _ _ _ _ block_first (block_byte 1 (omega arith)) (block_byte 2 (omega arith))
-      (block_byte 3 (omega arith)) j
+      (block_byte 3 (omega arith)) sa sb e

@@ -5,8 +5,7 @@ ghost use Rattle.rules.specs.Container.{payload};
 ghost use Rattle.rules.specs.Established.{Parsed};
 ghost use Rattle.fetch.specs.Indexed.{Indexed, constructor_arity, function_arity};
 
-use crate::index::arity_at;
-use readers::wide;
+use crate::index::{Index, arity_at};
 
 // For the crates above: the arity of a constructor, by its number. The first block has all but that of the last of 64, which stands eight
 // places further, in the second.
@@ -15,14 +14,13 @@ pub fn constructor_arity(file: &[u8], c: usize) -> usize
     ensures { result ≡ constructor_arity file.now c }
 {
     let at = 9 + 8 * (c + (c + 1) / 64);
-    wide(file[at])
+    usize::from(file[at])
 }
 
 // For the crates above: the arity of a function.
-pub fn function_arity(file: &[u8], index: &[u32; 64], f: usize) -> usize
+pub fn function_arity(file: &[u8], index: &Index, f: usize) -> usize
     requires { Indexed file.now index.now × (f < byte_at (payload file.now) 3) }
     ensures { result ≡ function_arity file.now f }
 {
-    let at = arity_at(index, f);
-    wide(file[at])
+    usize::from(file[arity_at(index, f)])
 }

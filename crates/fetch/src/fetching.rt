@@ -15,24 +15,17 @@ pub struct Fetched {
     pub next: usize,
 }
 
-// Four bytes as a number, the low one first.
-fn joined(a: u8, b: u8, c: u8, d: u8) -> u32
-    ensures { (result ≡ a + 256 * b + 65536 * c + 16777216 * d) × (a < 256) × (b < 256) }
-{
-    (a as u32) + 256 * (b as u32) + 65536 * (c as u32) + 16777216 * (d as u32)
-}
-
 // The four bytes of a record that goes on in the next block.
 fn apart(file: &[u8], k: usize) -> u32
     requires { Verified file.now × (k + 4 ≤ length (payload file.now)) }
     ensures { WordThere (payload file.now) k result }
 {
-    joined(
+    u32::from_le_bytes([
         payload_byte(file, k),
         payload_byte(file, k + 1),
         payload_byte(file, k + 2),
         payload_byte(file, k + 3),
-    )
+    ])
 }
 
 // For the crates above: the instruction at a place. Past place 504 of a block its bytes are read one by one.
@@ -47,7 +40,7 @@ pub fn fetch(file: &[u8], at: usize) -> Fetched
         };
     }
     Fetched {
-        word: joined(file[at], file[at + 1], file[at + 2], file[at + 3]),
+        word: u32::from_le_bytes([file[at], file[at + 1], file[at + 2], file[at + 3]]),
         next: at + 4,
     }
 }

@@ -9,5 +9,5 @@ mod places; // places.rt: places in the file and offsets in the payload
 
 pub use arities::{constructor_arity, function_arity};
 pub use fetching::{Fetched, fetch};
-pub use index::{code_at, index_of};
+pub use index::{Index, code_at, index_of};
 pub use places::{number_at, place_behind};

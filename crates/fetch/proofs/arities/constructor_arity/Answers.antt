@@ -32,4 +32,4 @@ bounds-file-at c =
 
 pub returns : goal.returns
 returns c =
-    c.wide.ensures.0 ∙ (arity_stands c.requires.0 c.args.c _ c.requires.1 (place _ (small (goal.at.returns c).Start))).1
+    c.from.ensures ∙ (arity_stands c.requires.0 c.args.c _ c.requires.1 (place _ (small (goal.at.returns c).Start))).1

@@ -3,13 +3,11 @@ use mathlib.Core.Path.{◌∙◌}
 use Rattle.fetch.proofs.IndexLaws.{function_small, inputs_stand}
 use Rattle.fetch.proofs.arities.function_arity.Goals as goal
 
-pub arity_at-at-requires : goal.arity_at-at-requires
-arity_at-at-requires c = (function_small c.requires.0.parsed c.args.f c.requires.1).0
+pub arity_at-requires : goal.arity_at-requires
+arity_at-requires c = (function_small c.requires.0.parsed c.args.f c.requires.1).0
 
-pub bounds-file-at : goal.bounds-file-at
-bounds-file-at c =
-    (inputs_stand _ _ c.requires.0 c.args.f _ c.requires.1 c.arity_at-at.ensures).0
+pub bounds-file-arity_at : goal.bounds-file-arity_at
+bounds-file-arity_at c = (inputs_stand _ _ c.requires.0 c.args.f _ c.requires.1 c.arity_at.ensures).0
 
 pub returns : goal.returns
-returns c =
-    c.wide.ensures.0 ∙ (inputs_stand _ _ c.requires.0 c.args.f _ c.requires.1 c.arity_at-at.ensures).1
+returns c = c.from.ensures ∙ (inputs_stand _ _ c.requires.0 c.args.f _ c.requires.1 c.arity_at.ensures).1

@@ -1,4 +1,5 @@
 -- `fetch` meets its contract: up to place 504 a record lies in its block.
+use Prim.Native.Nat.{◌+◌}
 use native.Mathlib.Omega.{arith}
 use Rattle.fetch.proofs.PlaceLaws.{place_small, behind_near, behind_over}
 use Rattle.fetch.proofs.WordLaws.{block_room, block_word}
@@ -33,7 +34,9 @@ bounds-file-at-4 c = omega (arith, block_room c.requires.0 c.args.at c.requires.
 
 pub returns : goal.returns
 returns c = (
-  block_word c.requires.0 c.args.at c.requires.1 c.requires.2 c.if-at-gt504.false c.joined.ensures,
+  block_word c.requires.0 c.args.at c.requires.1 c.requires.2 c.if-at-gt504.false (omega (arith, c.type_inv.file c.args.at))
+      (omega (arith, c.type_inv.file (c.args.at + 1)))
+      c.from_le_bytes.ensures,
   behind_near c.args.at 1 c.requires.1 (omega (arith, c.if-at-gt504.false)),
   omega (arith, place_small c.args.at (omega (arith, c.requires.2, c.requires.0.small))),
 )

@@ -1,5 +1,0 @@
--- Two stores.
-use Rattle.fetch.proofs.index.index_function.Goals as goal
-
-pub returns : goal.returns
-returns c = cc
