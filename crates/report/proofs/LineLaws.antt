@@ -5,21 +5,12 @@ use Prim.Native.Nat.{ℕ, zero, suc, ◌+◌, ◌-◌, ◌/◌, ◌%◌, ◌≤�
 use native.Mathlib.Omega.{arith}
 use native.Mathlib.Nat.{zero-add, pow-suc, one-le-pow, pow-le-pow_right, mod-eq_of_lt}
 use native.Mathlib.Decide.{dec_le}
-use lib.ListN.{length, drop, length-append}
-use lib.Seq.{take-append_seam}
+use lib.ListN.{length, length-append}
 use borrow.Author.Tests.{lt-ltb, le-ltb}
-use Rattle.io.specs.Counts.{IsPrefixLen as CountsFront}
 use Rattle.io.specs.Digits.{hex_digit_ascii, last_digits, IsDigitCount}
 use Rattle.rules.specs.Memory.{front_written, overwritten}
 use Rattle.rules.proofs.WriteLaws.{overwritten_more, front_start, front_grown}
-use Rattle.rules.specs.declared.answers.Reason.{Reason}
-use Rattle.rules.specs.declared.answers.Verdict.{Verdict}
-use Rattle.rules.specs.declared.answers.Verdict.TheVariants as verdict
-use Rattle.rules.specs.Base.{refused}
-use Rattle.rules.specs.Answers.{refusal_of, told}
-use Rattle.report.specs.declared.Numbers.{Numbers}
-use Rattle.report.specs.Said.{said}
-use Rattle.report.specs.Line.{decimal_within, decimal, spaced, verdict_line}
+use Rattle.report.specs.Line.{decimal_within, decimal, spaced}
 
 ---- A number
 
@@ -55,11 +46,6 @@ few_digits n r f h =
 
 ---- The line
 
--- there is room for the digits behind a space
-pub number_room : (at : ℕ) {behind count size room room' : ℕ} → behind ≡ at + 1 → count ≤ 20 → count ≡ size → at + 21 ≤ room → room' ≡ room
-    → behind + size ≤ room'
-number_room at b few e h s = omega (arith, b, few, e, h, s)
-
 -- what is put is a space and the number
 pub number_long : (at n count : ℕ) {text : List ℕ} {behind r : ℕ} → IsDigitCount 10 1 n count → count ≤ 20 → count ≡ length text
     → text ≡ last_digits 10 count n → behind ≡ at + 1 → r ≡ behind + length text
@@ -92,20 +78,3 @@ front_next w part out f l e =
       written = rw (e, f.written, f.place) (front_grown w part out (length w) refl);
       place = rw (l, f.place) (sym (length-append w part));
     }
-
----- The verdict
-
--- what a front's length counts
-pub counts_front : {r : ℕ} (w out : List ℕ) {out' : List ℕ} → (r ≡ length w) × (out' ≡ front_written w out) → CountsFront r out'
-    × ((r ≡ length w) × (out' ≡ front_written w out))
-counts_front w out (l, e) =
-    (rw (l, e) (simp length-append (omega arith), ap length (sym (take-append_seam w (drop (length w) out)))), (l, e))
-
--- the line of a refusal by its numbers
-pub refused_line : {v : Verdict} (reason : Reason) (x : Numbers) {r : ℕ} (out : List ℕ) {out' : List ℕ} → v ≡ verdict.Refused reason
-    → said x ≡ refusal_of reason
-    → (r ≡ length (verdict_line (refused (said x)))) × (out' ≡ front_written (verdict_line (refused (said x))) out)
-    → (r ≡ length (verdict_line (told v))) × (out' ≡ front_written (verdict_line (told v)) out)
-refused_line {v} reason x out e s (l, w) =
-    let t : told v ≡ refused (said x) = ap told e ∙ ap refused (sym s) in
-    (l ∙ ap (λ t. length (verdict_line t)) (sym t), w ∙ ap (λ t. front_written (verdict_line t) out) (sym t))

@@ -11,7 +11,7 @@ ghost use Rattle.rules.specs.Base.{refusal as refusal_with};
 use rules::answers::{Place, Reason};
 
 // A refusal as it is printed and exported.
-#[derive(Clone, Copy)]
+#[derive(Clone, Copy, Debug, PartialEq, Eq)]
 pub struct Numbers {
     pub number: u8,
     pub first: usize,
@@ -22,9 +22,9 @@ fn refusal(number: u8, first: usize, second: usize) -> Numbers
     ensures { said result ≡ refusal_with number first second }
 {
     Numbers {
-        number: number,
-        first: first,
-        second: second,
+        number,
+        first,
+        second,
     }
 }
 

@@ -7,7 +7,7 @@ ghost use Rattle.report.specs.Line.{spaced, verdict_line};
 ghost use Rattle.report.specs.Line.{line as line_of};
 
 use crate::numbers_of;
-use rules::answers::Verdict;
+use rules::answers::{Counts, Reason};
 
 // Put bytes into a line from a place on. The answer is the place behind them.
 fn put(line: &mut [u8], at: usize, bytes: &[u8]) -> usize
@@ -15,12 +15,9 @@ fn put(line: &mut [u8], at: usize, bytes: &[u8]) -> usize
     ensures value { result ≡ at + length bytes.now }
     ensures line_after { line.new ≡ overwritten line.old at bytes.now }
 {
-    let mut i: usize = 0;
-    while i < bytes.len() {
-        line[at + i] = bytes[i];
-        i += 1;
-    }
-    at + i
+    let behind = at + bytes.len();
+    line[at..behind].copy_from_slice(bytes);
+    behind
 }
 
 // Put a space and a number.
@@ -49,25 +46,25 @@ fn put_line(line: &mut [u8], word: &[u8], first: u64, second: u64, third: u64) -
 }
 
 // The line of a verdict, at the buffer's front. The answer is its length.
-pub fn write_verdict(verdict: Verdict, line: &mut [u8; 72]) -> usize
+pub fn write_verdict(verdict: Result<Counts, Reason>, line: &mut [u8; 72]) -> usize
     ensures counts_front { CountsFront result line.new }
     ensures value { result ≡ length (verdict_line (told verdict)) }
     ensures line_after { line.new ≡ front_written (verdict_line (told verdict)) line.old }
 {
     match verdict {
-        Verdict::Accepted(counts) => put_line(
+        Ok(counts) => put_line(
             line,
             b"accepted",
-            counts.types as u64,
-            counts.constructors as u64,
-            counts.functions as u64,
+            u64::from(counts.types),
+            u64::from(counts.constructors),
+            u64::from(counts.functions),
         ),
-        Verdict::Refused(reason) => {
+        Err(reason) => {
             let it = numbers_of(reason);
             put_line(
                 line,
                 b"refused",
-                it.number as u64,
+                u64::from(it.number),
                 it.first as u64,
                 it.second as u64,
             )

