@@ -1,29 +1,38 @@
 -- What the flow pass keeps of the paths that arrive at an instruction, and what its answers say.
-use Rattle.std.specs.Prelude.{if◌then◌else◌, ◌≡◌, List, ◌++◌, Bool, true, false, not, ℕ, ◌≤◌, eqb}
+use Rattle.std.specs.Prelude.{◌≡◌, List, [], ◌∷◌, Bool, true, false, ℕ, suc, ◌+◌, ◌≤◌}
 use Rattle.std.specs.Prelude.{Option, Some}
+use Rattle.std.specs.Option.{MatchOption}
 use Rattle.rules.specs.Base.{Tried, found}
-use Rattle.rules.specs.Walk.{Arrow, arrow_to}
+use Rattle.rules.specs.Walk.{Arrow}
+use Rattle.flow.specs.declared.Arrivals.{Arrivals}
+use Rattle.flow.specs.declared.Arrivals.TheVariants as arrivals
 use Rattle.flow.specs.declared.FlowStep.{FlowStep}
+use Rattle.flow.specs.declared.FlowStep.TheVariants.{Ends, Next, Both}
 
--- what a slot holds where so many paths have arrived, and the first of them brought this state: 0 no path, 1 one without a build or call,
--- 2 one past a build or call, 3 several
-pub data Waits : ℕ → ℕ → Option Bool → Type 0 where
-  nowhere : {o : Option Bool} → Waits 0 0 o
-  clear : Waits 1 1 (Some false)
-  behind : Waits 2 1 (Some true)
-  several : {n : ℕ} {o : Option Bool} → 2 ≤ n → Waits 3 n o
+-- what a slot holds where so many paths have arrived, and the first of them brought this state
+pub data Waits : Arrivals → ℕ → Option Bool → Type 0 where
+  nothing : {o : Option Bool} → Waits arrivals.Nothing 0 o
+  one : {past : Bool} → Waits (arrivals.One past) 1 (Some past)
+  several : {n : ℕ} {o : Option Bool} → 2 ≤ n → Waits arrivals.Several n o
 
 -- one path more
-unfoldable pub join_of : ℕ → Bool → ℕ
-join_of a past = if eqb a 0 then (if past then 2 else 1) else 3
+abbrev pub join_of : Arrivals → Bool → Arrivals
+join_of arrivals.Nothing past = arrivals.One past
+join_of (arrivals.One before) past = arrivals.Several
+join_of arrivals.Several past = arrivals.Several
 
--- nothing leaves, whether that is wrong or not
-abbrev pub nothing : Bool → FlowStep
-nothing wrong = record { wrong = wrong; on = 0; to = 0; past = false }
+-- the arrows that leave instruction i
+abbrev pub arrows_of : ℕ → FlowStep → List (Arrow Bool)
+arrows_of i Ends = []
+arrows_of i (Next past) = (suc i, past) ∷ []
+arrows_of i (Both to) = (suc i, false) ∷ (to, false) ∷ []
 
--- an answer says whether an instruction is right, which arrows leave it if it is, and names no instruction past the last
-pub record FlowSays (last : ℕ) (r : FlowStep) (right : Bool) (leaves : Tried (List (Arrow Bool))) : Type 0 where
-  pub wrong : r.wrong ≡ not right
-  pub says : right ≡ true → leaves ≡ found (arrow_to r.on r.past ++ arrow_to r.to r.past)
-  pub on : r.on ≤ last
-  pub to : r.to ≤ last
+-- they lead to instructions behind it, none of which is past the last
+abbrev pub Within : ℕ → ℕ → FlowStep → Type 0
+Within last i Ends = Unit {0}
+Within last i (Next past) = suc i ≤ last
+Within last i (Both to) = (i + 2 ≤ to) × (to ≤ last)
+
+-- an answer says whether an instruction is right, and what leaves it if it is
+pub record FlowSays (last i : ℕ) (r : Option FlowStep) (right : Bool) (leaves : Tried (List (Arrow Bool))) : Type 0 where
+  pub says : MatchOption r (right ≡ false) (λ l. (right ≡ true) × (leaves ≡ found (arrows_of i l)) × Within last i l)
