@@ -1,27 +1,16 @@
 -- Words written one after the other at the front of a buffer.
 use mathlib.Core.Path.{◌≡◌, refl, sym, ap, ◌∙◌}
 use mathlib.Core.List.{List, [], ◌∷◌, ◌++◌, append_assoc}
-use Prim.Native.Nat.{ℕ, zero, suc, ◌+◌, ◌*◌, ◌/◌, ◌%◌, ◌≤◌, ◌<◌, min}
+use Prim.Native.Nat.{ℕ, zero, suc, ◌+◌, ◌*◌, ◌≤◌, ◌<◌, min}
 use native.Mathlib.Omega.{arith}
 use native.Mathlib.Nat.{not-suc-le-zero, le_of_suc-le-suc}
 use native.Mathlib.Numerals.{add-one}
-use lib.ListN.{length, take, get_or, set, length-take}
+use lib.ListN.{length, take, get_or, length-take}
 use borrow.Author.Tests.{le-leb, lt-leb}
 use Rattle.rules.specs.Answers.{code_of, word_bytes, words_into}
 use Rattle.rules.specs.Container.{bytes4}
 use Rattle.rules.specs.Memory.{front_written, overwritten}
-use Rattle.rules.proofs.WriteLaws.{pasted_start, pasted_next, pasted_end, front_grown}
-
--- one word
-pub word_put : (out : List ℕ) (at x : ℕ) → at + 4 ≤ length out
-    → set (set (set (set out at (x % 256)) (at + 1) (x / 256 % 256)) (at + 2) (x / 65536 % 256)) (at + 3) (x / 65536 / 256 % 256)
-    ≡ overwritten out at (bytes4 x)
-word_put out at x h =
-    let at₀ : at ≡ at + 0 = omega arith in
-    pasted_end {bytes = bytes4 x}
-    (pasted_next {i = 3} {i' = 4} (pasted_next {i = 2} (pasted_next {i = 1} (pasted_next {i = 0}
-    (pasted_start refl h) (omega arith) refl at₀ refl) (omega arith) refl refl refl) (omega arith) refl refl refl) (omega arith) refl refl
-    refl) (omega arith)
+use Rattle.rules.proofs.WriteLaws.{front_grown}
 
 -- four bytes a word
 words_length : (ws : List ℕ) → length (word_bytes ws) ≡ 4 * length ws
@@ -40,39 +29,25 @@ words_grown (w ∷ ws) (suc i) h =
 
 module _ (ws out₀ : List ℕ) where
   -- i words stand at the front
-  pub record Fronted (i : ℕ) (out : List ℕ) : Type 0 where
-    pub within : i ≤ length ws
-    pub same : length out ≡ length out₀
-    pub front : out ≡ front_written (word_bytes (take i ws)) out₀
+  abbrev pub Fronted : ℕ → List ℕ → Type 0
+  Fronted i out = out ≡ front_written (word_bytes (take i ws)) out₀
 
   pub fronted_none : Fronted 0 out₀
   unfolding word_bytes
-  fronted_none = record { within = omega arith; same = refl; front = refl }
+  fronted_none = refl
 
   taken : (i : ℕ) → i ≤ length ws → length (word_bytes (take i ws)) ≡ 4 * i
-  taken i h = words_length (take i ws) ∙ ap (λ (n : ℕ). 4 * n) (length-take i ws ∙ e)
-    where
-      e : min i (length ws) ≡ i
-      e = omega arith
+  taken i h = let e : min i (length ws) ≡ i = omega arith in words_length (take i ws) ∙ ap (λ (n : ℕ). 4 * n) (length-take i ws ∙ e)
 
-  pub fronted_next : {i : ℕ} {out out' : List ℕ} → Fronted i out → i < length ws → length out' ≡ length out
-      → out' ≡ overwritten out (4 * i) (bytes4 (get_or ws i 0)) → Fronted (i + 1) out'
-  fronted_next {i} f h long e = record {
-    within = omega arith;
-    same = long ∙ f.same;
-    front = rw (
-      e,
-      f.front,
-      front_grown (word_bytes (take i ws)) (bytes4 (get_or ws i 0)) out₀ (4 * i) (sym (taken i f.within)),
-      add-one i,
-      words_grown ws i h,
-    );
-  }
+  pub fronted_next : {i : ℕ} {out out' : List ℕ} → Fronted i out → i < length ws → out' ≡ overwritten out (4 * i) (bytes4 (get_or ws i 0))
+      → Fronted (i + 1) out'
+  fronted_next {i} f h e =
+      let w = word_bytes (take i ws) in
+      rw (e, f, front_grown w (bytes4 (get_or ws i 0)) out₀ (4 * i) (sym (taken i (omega arith))), add-one i, words_grown ws i h)
 
-  pub all_fronted : (i n : ℕ) {out : List ℕ} → Fronted i out → i ≡ n → 4 * n ≤ length out₀ → out ≡ words_into (take n ws) out₀
+  pub all_fronted : (n : ℕ) {out : List ℕ} → Fronted n out → n ≤ length ws → 4 * n ≤ length out₀ → out ≡ words_into (take n ws) out₀
   unfolding words_into
-  all_fronted i n f e room =
-      f.front ∙ rw (← e, le-leb (length (word_bytes (take i ws))) (length out₀) (omega (arith, taken i f.within)))
+  all_fronted n f h room = f ∙ rw (le-leb (length (word_bytes (take n ws))) (length out₀) (omega (arith, taken n h)))
 
   pub none_fronted : (n : ℕ) → n ≤ length ws → length out₀ < 4 * n → out₀ ≡ words_into (take n ws) out₀
   unfolding words_into

@@ -7,39 +7,39 @@ ghost use Rattle.rules.specs.Container.{bytes4};
 ghost use Rattle.rules.specs.Memory.{overwritten};
 ghost use Rattle.words.specs.Words.{RefusedWords};
 
-use rules::answers::{Answer, Ending, Length, Reason, Verdict};
+use rules::answers::{Answer, Counts, Ending, Reason};
 
 // A refusal: its number, its places, and the steps taken.
 fn refused(reason: Reason, steps: usize) -> [usize; 5]
     ensures { RefusedWords reason steps result }
 {
     let n = report::numbers_of(reason);
-    [n.number as usize, n.first, n.second, steps, 0]
+    [usize::from(n.number), n.first, n.second, steps, 0]
 }
 
 // For the crates above: check, in four words.
-pub fn check_words(verdict: Verdict) -> [usize; 5]
+pub fn check_words(verdict: Result<Counts, Reason>) -> [usize; 5]
     ensures { (take 4 result ≡ check_words (told verdict)) × (get_or result 0 0 < 256) }
 {
     match verdict {
-        Verdict::Accepted(c) => [
+        Ok(c) => [
             0,
-            c.types as usize,
-            c.constructors as usize,
-            c.functions as usize,
+            usize::from(c.types),
+            usize::from(c.constructors),
+            usize::from(c.functions),
             0,
         ],
-        Verdict::Refused(reason) => refused(reason, 0),
+        Err(reason) => refused(reason, 0),
     }
 }
 
 // For the crates above: pack and unpack, in four words.
-pub fn length_words(length: Length) -> [usize; 5]
+pub fn length_words(length: Result<usize, Reason>) -> [usize; 5]
     ensures { (take 4 result ≡ length_words (told length)) × (get_or result 0 0 < 256) }
 {
     match length {
-        Length::Bytes(n) => [0, 0, 0, n, 0],
-        Length::Refused(reason) => refused(reason, 0),
+        Ok(n) => [0, 0, 0, n, 0],
+        Err(reason) => refused(reason, 0),
     }
 }
 
@@ -48,8 +48,7 @@ pub fn run_words(answer: Answer) -> [usize; 5]
     ensures { (take 5 result ≡ run_words (told_run answer)) × (get_or result 0 0 < 256) }
 {
     let steps = answer.steps as usize;
-    let ending = answer.ending;
-    match ending {
+    match answer.ending {
         Ending::Result(n) => [0, 0, 0, steps, n],
         Ending::Aborted => [100, 0, 0, steps, 0],
         Ending::Refused(reason) => refused(reason, steps),
@@ -61,10 +60,7 @@ fn put_word(answer: &mut [u8], at: usize, x: usize)
     requires { at + 4 ≤ length answer.old }
     ensures { answer.new ≡ overwritten answer.old at (bytes4 x) }
 {
-    answer[at] = (x % 256) as u8;
-    answer[at + 1] = (x / 256 % 256) as u8;
-    answer[at + 2] = (x / 65536 % 256) as u8;
-    answer[at + 3] = (x / 65536 / 256 % 256) as u8;
+    answer[at..at + 4].copy_from_slice(&x.to_le_bytes()[..4]);
 }
 
 // The first n words, where the buffer has room for all of them.
@@ -75,10 +71,8 @@ fn put_words(words: [usize; 5], n: usize, answer: &mut [u8])
     if answer.len() < 4 * n {
         return;
     }
-    let mut i: usize = 0;
-    while i < n {
+    for i in 0..n {
         put_word(answer, 4 * i, words[i]);
-        i += 1;
     }
 }
 
