@@ -15,9 +15,6 @@ use Rattle.rules.proofs.SameLaws.{Same}
 use Rattle.fields.specs.Onward.{onward, Reaches, Placed}
 
 module _ {file : List ℕ} {place left n : ℕ} (r : Reaches file place left n) where
-  pub reaches_less : (m : ℕ) → m ≤ n → Reaches file place left m
-  reaches_less m h = record { near = omega (arith, r.near); far = λ l. omega (arith, r.far (omega arith)) }
-
   pub onward_near : (j : ℕ) → j < n → j < left → byte_at file (place + j) ≡ byte_at (onward file place left) j
   unfolding onward
   onward_near j h l =

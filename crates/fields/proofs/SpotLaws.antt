@@ -35,13 +35,13 @@ module _ {file bytes : List ℕ} {at n place left : ℕ} (s : Spot file bytes at
         let e = s.room in
         rw s.stands (record_same s.placed at k n s.there s.some s.short (omega arith) (λ l. omega (arith, all l)))
 
-  -- it ends in its block
-  module _ (ends : n ≤ left) where
-    pub near_reaches : Reaches file place n n
-    near_reaches = reaches n ends (λ l. absurd (omega arith))
+  -- it ends in its block, of which as many bytes are asked for
+  module _ (ends : n ≤ left) {k : ℕ} (asked : k ≡ n) where
+    pub near_reaches : Reaches file place k n
+    near_reaches = reaches k (omega arith) (λ l. absurd (omega arith))
 
-    pub near_same : Same (onward file place n) 0 bytes at n
-    near_same = same n ends (λ l. absurd (omega arith))
+    pub near_same : Same (onward file place k) 0 bytes at n
+    near_same = same k (omega arith) (λ l. absurd (omega arith))
 
   -- or wherever it ends
   pub far_reaches : Reaches file place left n

@@ -1,7 +1,7 @@
 -- In the block it stands at its place, behind the block's end eight bytes further.
 use native.Mathlib.Omega.{arith}
 use Rattle.fields.proofs.OnwardLaws.{onward_near, onward_far}
-use Rattle.fields.proofs.byte_from.Goals as goal
+use Rattle.fields.proofs.bytes.byte_from.Goals as goal
 
 pub returns-then-j-left : goal.returns-then-j-left
 returns-then-j-left c = onward_near c.requires c.args.j (omega arith) c.if-j-left.true
