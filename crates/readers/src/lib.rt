@@ -9,10 +9,7 @@ ghost use Rattle.rules.specs.Records.{header_at, declaration_at, constructor_at,
 ghost use Rattle.rules.specs.Records.{constructor_offset};
 ghost use Rattle.rules.specs.Established.{Verified};
 
-use fields::{
-    alternative_from, constructor_from, declaration_from, head_from, header_from, instruction_from,
-    left_in_block, place_of,
-};
+use fields::{Record, left_in_block, place_of};
 use ranges::operation_of;
 use rules::records::{
     AlternativeRecord, ConstructorRecord, Declaration, HeadRecord, Header, Instruction,
@@ -30,25 +27,25 @@ pub fn wide(b: u8) -> usize
     b as usize
 }
 
+// For the crates above: the record at an offset.
+pub fn read<R: Record>(file: &[u8], at: usize) -> R
+    requires { Verified file.now × (at + R.SIZE ≤ length (payload file.now)) }
+    ensures { result ≡ R.record_at (payload file.now) at }
+{
+    let place = place_of(at);
+    let left = left_in_block(at);
+    if left >= R::SIZE {
+        return R::read(file, place, R::SIZE);
+    }
+    R::read(file, place, left)
+}
+
 // For the crates above: the header, which stands at the first place of the first block.
 pub fn header(file: &[u8]) -> Header
     requires { Verified file.now × (4 ≤ length (payload file.now)) }
     ensures { result ≡ header_at (payload file.now) 0 }
 {
-    header_from(file, 4, 4)
-}
-
-// For the crates above: what a constructor and a function head both begin with.
-pub fn declaration(file: &[u8], at: usize) -> Declaration
-    requires { Verified file.now × (at + 6 ≤ length (payload file.now)) }
-    ensures { result ≡ declaration_at (payload file.now) at }
-{
-    let place = place_of(at);
-    let left = left_in_block(at);
-    if left >= 6 {
-        return declaration_from(file, place, 6);
-    }
-    declaration_from(file, place, left)
+    Header::read(file, 4, Header::SIZE)
 }
 
 // For the crates above: the declaration of constructor c. The first 62 end in the first block, where the place follows from the number: an
@@ -58,9 +55,17 @@ pub fn constructor_declaration(file: &[u8], c: usize) -> Declaration
     ensures { result ≡ declaration_at (payload file.now) (constructor_offset c) }
 {
     if c < 62 {
-        return declaration_from(file, 8 + 8 * c, 6);
+        return Declaration::read(file, 8 + 8 * c, Declaration::SIZE);
     }
     declaration(file, constructor_offset(c))
+}
+
+// For the crates above: what a constructor and a function head both begin with.
+pub fn declaration(file: &[u8], at: usize) -> Declaration
+    requires { Verified file.now × (at + 6 ≤ length (payload file.now)) }
+    ensures { result ≡ declaration_at (payload file.now) at }
+{
+    read(file, at)
 }
 
 // For the crates above: the constructor at an offset.
@@ -68,12 +73,7 @@ pub fn constructor(file: &[u8], at: usize) -> ConstructorRecord
     requires { Verified file.now × (at + 8 ≤ length (payload file.now)) }
     ensures { result ≡ constructor_at (payload file.now) at }
 {
-    let place = place_of(at);
-    let left = left_in_block(at);
-    if left >= 8 {
-        return constructor_from(file, place, 8);
-    }
-    constructor_from(file, place, left)
+    read(file, at)
 }
 
 // For the crates above: the function head at an offset.
@@ -81,12 +81,7 @@ pub fn head(file: &[u8], at: usize) -> HeadRecord
     requires { Verified file.now × (at + 10 ≤ length (payload file.now)) }
     ensures { result ≡ head_at (payload file.now) at }
 {
-    let place = place_of(at);
-    let left = left_in_block(at);
-    if left >= 10 {
-        return head_from(file, place, 10);
-    }
-    head_from(file, place, left)
+    read(file, at)
 }
 
 // For the crates above: the alternative at an offset.
@@ -94,12 +89,7 @@ pub fn alternative(file: &[u8], at: usize) -> AlternativeRecord
     requires { Verified file.now × (at + 6 ≤ length (payload file.now)) }
     ensures { result ≡ alternative_at (payload file.now) at }
 {
-    let place = place_of(at);
-    let left = left_in_block(at);
-    if left >= 6 {
-        return alternative_from(file, place, 6);
-    }
-    alternative_from(file, place, left)
+    read(file, at)
 }
 
 // For the crates above: the bytes of the instruction at an offset.
@@ -107,12 +97,7 @@ pub fn instruction_record(file: &[u8], at: usize) -> InstructionRecord
     requires { Verified file.now × (at + 4 ≤ length (payload file.now)) }
     ensures { result ≡ instruction_at (payload file.now) at }
 {
-    let place = place_of(at);
-    let left = left_in_block(at);
-    if left >= 4 {
-        return instruction_from(file, place, 4);
-    }
-    instruction_from(file, place, left)
+    read(file, at)
 }
 
 // For the crates above: the instruction at an offset, where its record is right.
