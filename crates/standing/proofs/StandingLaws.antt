@@ -8,6 +8,7 @@ use lib.ListN.{length}
 use lib.Seq.{ext_get_or}
 use lib.Dec.{leb}
 use borrow.Author.Tests.{leb-true, leb-false, le-leb, lt-leb}
+use Rattle.std.specs.Prelude.{Some}
 use Rattle.rules.specs.Base.{byte_at, word_at}
 use Rattle.rules.specs.Container.{payload, place_of}
 use Rattle.rules.specs.Established.{Verified}
@@ -16,7 +17,7 @@ use Rattle.rules.proofs.ListLaws.{get_d_element}
 use Rattle.rules.proofs.NumberedLaws.{numbered_length, numbered_there}
 use Rattle.fields.specs.Onward.{Placed}
 use Rattle.fields.proofs.SpotLaws.{Spot}
-use Rattle.standing.specs.Found.{last_block, extent, standing, whole, Inside, seen}
+use Rattle.standing.specs.Found.{last_block, extent, standing, whole, found_at, Inside}
 
 -- as the code tests it, with no sum that could wrap
 pub leb_moved : (at size n : ℕ) → size ≤ n → leb at (n - size) ≡ leb (at + size) n
@@ -65,30 +66,28 @@ module _ (file : List ℕ) where
 
   ---- A record
 
-  module _ (size at : ℕ) where
-    pub seen_whole : whole size file at ≡ true → standing file ≡ seen size file at
-    unfolding seen
-    seen_whole e = rw e
+  pub inside_whole : (size at : ℕ) → at + size ≤ extent file → Inside file (at + size)
+  inside_whole size at h = record { counted = h; small = omega (arith, extent_small) }
 
-    pub seen_not : whole size file at ≡ false → [] ≡ seen size file at
-    unfolding seen
-    seen_not e = rw e
+-- a record that is there, as the code finds it
+pub found_spot : {file : List ℕ} {at s size place left : ℕ} → Inside file (at + s) → s ≡ size → 1 ≤ size → size ≤ 504
+    → place ≡ place_of at → left ≡ 504 - at % 504 → Spot file (standing file) at size place left
+found_spot {file} {at} there sized some short stands room =
+    let there = rw sized at there in
+    record {
+      count = extent file;
+      placed = standing_placed file;
+      there = there.counted;
+      some = some;
+      short = short;
+      stands = stands;
+      room = room;
+    }
 
-    pub inside_whole : at + size ≤ extent file → Inside file (at + size)
-    inside_whole h = record { counted = h; small = omega (arith, extent_small) }
-
--- n bytes at an offset that are there, as the code finds them
-pub found_spot : {file : List ℕ} {at n place left : ℕ} → Inside file (at + n) → 1 ≤ n → n ≤ 504 → place ≡ place_of at
-    → left ≡ 504 - at % 504 → Spot file (standing file) at n place left
-found_spot {file} there some short stands room = record {
-  count = extent file;
-  placed = standing_placed file;
-  there = there.counted;
-  some = some;
-  short = short;
-  stands = stands;
-  room = room;
-}
+-- and what it found
+pub found_read : (file : List ℕ) {R : Type 0} (record_at : List ℕ → ℕ → R) {at s size : ℕ} {t : Bool} {r : R} → s ≡ size
+    → t ≡ whole s file at → t ≡ true → r ≡ record_at (standing file) at → Some r ≡ found_at size record_at file at
+found_read file record_at es e h q = rw (← es, ← e, h, q)
 
 -- of right blocks they are the payload
 standing_payload : (file : List ℕ) → Verified file → standing file ≡ payload file
@@ -100,10 +99,9 @@ standing_payload file v =
     ext_get_or 0 _ _ (standing_length file ∙ n) (λ k h. sym (standing_byte file k (omega (arith, standing_length file, h)))
     ∙ verified_byte v k (omega (arith, standing_length file, h, n)))
 
--- so a record of the payload is there whole, and read from it
-pub seen_payload : {file : List ℕ} → Verified file → (size at : ℕ) → at + size ≤ length (payload file)
-    → (whole size file at ≡ true) × (seen size file at ≡ payload file)
-seen_payload {file} v size at h =
+-- so a record of the payload is found, and read from it
+pub found_payload : {file : List ℕ} → Verified file → {R : Type 0} (size : ℕ) (record_at : List ℕ → ℕ → R) (at : ℕ)
+    → at + size ≤ length (payload file) → found_at size record_at file at ≡ Some (record_at (payload file) at)
+found_payload {file} v size record_at at h =
     let p = standing_payload file v in
-    let w = le-leb (at + size) (extent file) (omega (arith, ap length p, standing_length file)) in
-    (w, sym (seen_whole file size at w) ∙ p)
+    rw (le-leb (at + size) (extent file) (omega (arith, ap length p, standing_length file)), p)

@@ -1,13 +1,13 @@
 -- What a reader of lent blocks finds at an offset of their payload, whether the blocks are right or not.
-use Rattle.std.specs.Prelude.{if◌then◌else◌, List, [], Bool, ℕ, ◌+◌, ◌*◌, ◌-◌, ◌/◌, ◌≤◌, min, length, leb}
+use Rattle.std.specs.Prelude.{if◌then◌else◌, List, Bool, Option, None, Some, ℕ, ◌+◌, ◌*◌, ◌-◌, ◌/◌, ◌≤◌, min, length, leb}
+use Rattle.rules.specs.declared.records.Header.{Header}
+use Rattle.rules.specs.declared.records.ConstructorRecord.{ConstructorRecord}
+use Rattle.rules.specs.declared.records.HeadRecord.{HeadRecord}
+use Rattle.rules.specs.declared.records.AlternativeRecord.{AlternativeRecord}
+use Rattle.rules.specs.declared.records.InstructionRecord.{InstructionRecord}
 use Rattle.rules.specs.Base.{numbered, byte_at, word_at}
 use Rattle.rules.specs.Container.{place_of}
 use Rattle.rules.specs.Records.{header_at, constructor_at, head_at, alternative_at, instruction_at}
-use Rattle.standing.specs.declared.HeaderFound.{HeaderFound}
-use Rattle.standing.specs.declared.ConstructorFound.{ConstructorFound}
-use Rattle.standing.specs.declared.HeadFound.{HeadFound}
-use Rattle.standing.specs.declared.AlternativeFound.{AlternativeFound}
-use Rattle.standing.specs.declared.InstructionFound.{InstructionFound}
 
 -- how many payload bytes lent blocks have by their own count: 504 in each but the last, and there as many as it says, 504 at most
 abbrev pub last_block : List ℕ → ℕ
@@ -32,21 +32,21 @@ pub record Inside (file : List ℕ) (n : ℕ) : Type 0 where
   pub counted : n ≤ extent file
   pub small : n ≤ length file
 
--- what the fields of such a record are read from: of one that is not there whole, every field is 0
-unfoldable pub seen : ℕ → List ℕ → ℕ → List ℕ
-seen size file at = if whole size file at then standing file else []
+-- the record of so many bytes at an offset, if it is there whole
+abbrev pub found_at : {R : Type 0} → ℕ → (List ℕ → ℕ → R) → List ℕ → ℕ → Option R
+found_at size record_at file at = if whole size file at then Some (record_at (standing file) at) else None
 
-abbrev pub header_found : List ℕ → HeaderFound
-header_found file = record { there = whole 4 file 0; header = header_at (seen 4 file 0) 0 }
+abbrev pub header_found : List ℕ → Option Header
+header_found file = found_at 4 header_at file 0
 
-abbrev pub constructor_found : List ℕ → ℕ → ConstructorFound
-constructor_found file at = record { there = whole 8 file at; constructor = constructor_at (seen 8 file at) at }
+abbrev pub constructor_found : List ℕ → ℕ → Option ConstructorRecord
+constructor_found file at = found_at 8 constructor_at file at
 
-abbrev pub head_found : List ℕ → ℕ → HeadFound
-head_found file at = record { there = whole 10 file at; head = head_at (seen 10 file at) at }
+abbrev pub head_found : List ℕ → ℕ → Option HeadRecord
+head_found file at = found_at 10 head_at file at
 
-abbrev pub alternative_found : List ℕ → ℕ → AlternativeFound
-alternative_found file at = record { there = whole 6 file at; alternative = alternative_at (seen 6 file at) at }
+abbrev pub alternative_found : List ℕ → ℕ → Option AlternativeRecord
+alternative_found file at = found_at 6 alternative_at file at
 
-abbrev pub instruction_found : List ℕ → ℕ → InstructionFound
-instruction_found file at = record { there = whole 4 file at; instruction = instruction_at (seen 4 file at) at }
+abbrev pub instruction_found : List ℕ → ℕ → Option InstructionRecord
+instruction_found file at = found_at 4 instruction_at file at

@@ -11,20 +11,15 @@ fn extent(file: &[u8]) -> usize
     }
     let last = file.len() / 512 - 1;
     let at = 512 * last + 2;
-    let used = blocks::join(file[at], file[at + 1]) as usize;
-    if 504 < used {
-        return 504 * last + 504;
-    }
-    504 * last + used
+    let used = usize::from(blocks::join(file[at], file[at + 1]));
+    504 * last + used.min(504)
 }
 
 // Whether a record of so many bytes is there whole.
 pub fn is_there(file: &[u8], at: usize, size: usize) -> bool
-    ensures { (result ≡ whole size file.now at) × (result ≡ true → Inside file.now (at + size)) }
+    ensures there { result ≡ whole size file.now at }
+    ensures inside { result ≡ true → Inside file.now (at + size) }
 {
     let n = extent(file);
-    if n < size {
-        return false;
-    }
-    at <= n - size
+    size <= n && at <= n - size
 }

@@ -1,21 +1,10 @@
 -- Blocks of which one is the last, or none.
-use native.Mathlib.Omega.{arith}
+use Rattle.std.proofs.Common.{arith}
 use Rattle.standing.proofs.StandingLaws.{extent_none, extent_some}
 use Rattle.standing.proofs.extent.extent.Goals as goal
 
 pub returns-then-file-lt512 : goal.returns-then-file-lt512
 returns-then-file-lt512 c = extent_none c.args.file.now (omega arith)
 
-pub returns-then-used-gt504 : goal.returns-then-used-gt504
-returns-then-used-gt504 c = omega (
-  arith,
-  extent_some c.args.file.now (omega arith),
-  c.join-used.ensures,
-)
-
 pub returns : goal.returns
-returns c = omega (
-  arith,
-  extent_some c.args.file.now (omega arith),
-  c.join-used.ensures,
-)
+returns c = omega (arith, extent_some c.args.file.now (omega arith), c.join.ensures)
