@@ -2,15 +2,11 @@
 use crate::lent::Left;
 use crate::{hex, lent};
 use report::line::write_verdict;
-use rules::answers::{Answer, Ending, Length, Reason, Verdict};
+use rules::answers::{Answer, Counts, Ending, Reason};
 
 // What cannot be written is left out: whoever ends the line finds that out.
 fn text(rt: &impl Print, bytes: &[u8]) {
     let _ = rt.write_all(bytes);
-}
-
-fn number(rt: &impl Print, n: u64) {
-    let _ = print!(rt; " {n}");
 }
 
 pub fn bad_command(rt: &impl Print) {
@@ -24,83 +20,50 @@ fn wrong(rt: &impl Print) {
 
 fn refused(rt: &impl Print, reason: Reason) {
     let told = report::numbers_of(reason);
-    text(rt, b"refused");
-    number(rt, told.number as u64);
-    number(rt, told.first as u64);
-    number(rt, told.second as u64);
+    let _ = print!(rt; "refused {} {} {}", told.number, told.first, told.second);
 }
 
-pub fn checked(rt: &impl Print, verdict: Verdict) {
+pub fn checked(rt: &impl Print, verdict: Result<Counts, Reason>) {
     let mut line = [0u8; 72];
-    let n = write_verdict(verdict, &mut line);
-    if 0 < n {
-        let end = n - 1;
-        text(rt, &line[0..end]);
+    let count = write_verdict(verdict, &mut line);
+    if let Some((_, told)) = line[..count].split_last() {
+        text(rt, told);
     }
 }
 
-fn length(answer: Length) -> usize {
-    match answer {
-        Length::Bytes(n) => n,
-        Length::Refused(_) => 0,
+// The first so many bytes of an output, where a call wrote no others.
+fn written(out: &[u8], count: usize) -> Option<&[u8]> {
+    let (written, rest) = out.split_at_checked(count)?;
+    if lent::kept(rest) {
+        Some(written)
+    } else {
+        None
     }
 }
 
-// The answer of pack or unpack, with what it wrote to the output.
-pub fn wrote(rt: &impl Print, name: &[u8], answer: Length, out: &[u8]) {
-    let n = length(answer);
-    if out.len() < n {
-        wrong(rt);
-        return;
-    }
-    if !lent::kept(&out[n..]) {
-        wrong(rt);
-        return;
-    }
+// The answer of pack, unpack or lines, with what it wrote to the output.
+pub fn wrote(rt: &impl Print, name: &[u8], answer: Result<usize, Reason>, out: &[u8]) {
+    let Some(bytes) = written(out, answer.unwrap_or(0)) else {
+        return wrong(rt);
+    };
     match answer {
-        Length::Bytes(_) => {
+        Ok(_) => {
             text(rt, name);
-            hex::write(rt, &out[0..n]);
+            hex::write(rt, bytes);
         }
-        Length::Refused(reason) => refused(rt, reason),
+        Err(reason) => refused(rt, reason),
     }
-}
-
-fn result_length(ending: Ending) -> usize {
-    match ending {
-        Ending::Result(n) => n,
-        Ending::Aborted => 0,
-        Ending::Refused(_) => 0,
-    }
-}
-
-fn ended(rt: &impl Print, answer: Answer, res: &[u8], begun: u64) {
-    let ending = answer.ending;
-    match ending {
-        Ending::Result(_) => {
-            text(rt, b"figure ");
-            hex::write(rt, res);
-        }
-        Ending::Aborted => text(rt, b"gaveup"),
-        Ending::Refused(reason) => refused(rt, reason),
-    }
-    number(rt, answer.steps as u64);
-    number(rt, begun);
 }
 
 // Whether a run has begun that had no usable cells and no usable stack, in which nothing shows it. Before the start such a run is
 // refused for its program, its entry or its arguments, for want of any frame, or for want of stack places for its arguments.
 fn begun_unseen(ending: Ending, arguments: usize, frames: usize) -> bool {
     match ending {
-        Ending::Result(_) => true,
-        Ending::Aborted => true,
-        Ending::Refused(reason) => match reason {
-            Reason::BudgetSpent(_) => true,
-            Reason::OutOfCells(_) => true,
-            Reason::OutOfStack(_) => arguments == 0,
-            Reason::OutOfFrames(_) => 0 < frames,
-            _ => false,
-        },
+        Ending::Result(_) | Ending::Aborted => true,
+        Ending::Refused(Reason::BudgetSpent(_) | Reason::OutOfCells(_)) => true,
+        Ending::Refused(Reason::OutOfStack(_)) => arguments == 0,
+        Ending::Refused(Reason::OutOfFrames(_)) => 0 < frames,
+        Ending::Refused(_) => false,
     }
 }
 
@@ -114,25 +77,26 @@ pub fn ran(
     out: &[u8],
 ) {
     let ending = answer.ending;
-    let n = result_length(ending);
-    if out.len() < n {
-        wrong(rt);
-        return;
-    }
-    if !lent::kept(&out[n..]) {
-        wrong(rt);
-        return;
-    }
-    match left {
-        Left::Either => {
-            if begun_unseen(ending, arguments, frames) {
-                ended(rt, answer, &out[0..n], 1);
-            } else {
-                ended(rt, answer, &out[0..n], 0);
-            }
+    let length = match ending {
+        Ending::Result(n) => n,
+        Ending::Aborted | Ending::Refused(_) => 0,
+    };
+    let Some(bytes) = written(out, length) else {
+        return wrong(rt);
+    };
+    let begun = match left {
+        Left::Either => begun_unseen(ending, arguments, frames),
+        Left::Kept => false,
+        Left::Zeroed => true,
+        Left::Wrong => return wrong(rt),
+    };
+    match ending {
+        Ending::Result(_) => {
+            text(rt, b"figure ");
+            hex::write(rt, bytes);
         }
-        Left::Kept => ended(rt, answer, &out[0..n], 0),
-        Left::Zeroed => ended(rt, answer, &out[0..n], 1),
-        Left::Wrong => wrong(rt),
+        Ending::Aborted => text(rt, b"gaveup"),
+        Ending::Refused(reason) => refused(rt, reason),
     }
+    let _ = print!(rt; " {} {}", answer.steps, u8::from(begun));
 }
