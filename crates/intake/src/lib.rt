@@ -1,30 +1,38 @@
-// The standard streams as the programs use them: one bytecode program read to its end, and a line written or the reason said.
+// The standard streams as the programs use them: one bytecode program read to its end, output written, and the stream that failed named.
 #![tactic(auto)]
 
-ghost use Rattle.std.specs.Prelude.{◌<◌, length};
+ghost use Rattle.std.specs.Prelude.{◌<◌, length, IfOk};
 ghost use Rattle.io.specs.Counts.{IsPrefixLen as CountsFront};
 
 use arrayvec::ArrayString;
 use std::env::FillError;
 use std::fmt::Write;
-use std::io;
 use std::io::Read;
 use std::rt::Env;
+use std::{fmt, io};
 
-// The system's words for an error, without the error's number that std writes behind them.
-fn words_of(error: &str) -> &str {
-    match error.split_once(" (os error ") {
-        Some((words, _)) => words,
-        None => error,
-    }
+// A standard stream that failed, and why.
+#[derive(Clone, Copy, Debug)]
+pub enum Failure {
+    Input(io::Error),
+    Output(io::Error),
 }
 
-// Writes a line to standard error: what failed, and the reason.
-fn say_failure(rt: &impl Eprint, what: &str, error: &io::Error) {
-    let mut text = ArrayString::<160>::new();
-    let _ = write!(text, "{error}");
-    let reason = words_of(text.as_str());
-    let _ = eprintln!(rt; "{what}: {reason}");
+// The stream and the system's words, without the error's number that std writes behind them.
+impl fmt::Display for Failure {
+    fn fmt<W: Write>(&self, f: &mut fmt::Formatter<W>) -> fmt::Result {
+        let (stream, error) = match *self {
+            Failure::Input(error) => ("input", error),
+            Failure::Output(error) => ("output", error),
+        };
+        let mut text = ArrayString::<160>::new();
+        let _ = write!(text, "{error}");
+        let reason = text.as_str();
+        let words = reason
+            .split_once(" (os error ")
+            .map_or(reason, |(words, _)| words);
+        write!(f, "standard {stream}: {words}")
+    }
 }
 
 // Whether the program was started with words behind its name.
@@ -32,48 +40,32 @@ pub fn has_words(rt: &impl Env) -> bool {
     !matches!(rt.arg(1, &mut [0u8; 1]), Err(FillError::NotPresent))
 }
 
-// Bytes of standard input at a buffer's front: all of it, or as many as the buffer has.
-#[derive(Clone, Copy)]
-pub struct Input {
-    pub read: bool,
-    pub count: usize,
-}
-
 // For the crates above: reads standard input to its end, one byte past the longest program at most, so that a longer one is noticed:
-// the buffer has room for that byte. Nothing is read where the input fails, and standard error then says why.
-pub fn read_input(rt: &(impl io::Input + Eprint), buffer: &mut [u8]) -> Input
+// the buffer has room for that byte. The answer is how many bytes stand at the buffer's front.
+pub fn read_input(rt: &impl io::Input, buffer: &mut [u8]) -> Result<usize, Failure>
     requires { 32768 < length buffer.old }
-    ensures { CountsFront result.count buffer.new }
+    ensures { IfOk result (λ n. CountsFront n buffer.new) }
 {
+    // A read may be short, and std's read_exact would not say how many bytes came.
     let mut reader = rt.reader();
-    let mut count: usize = 0;
+    let mut count = 0;
     while count < buffer.len() {
-        match reader.read(&mut buffer[count..]) {
-            Ok(0) => break,
-            Ok(n) => count += n,
-            Err(error) => {
-                say_failure(rt, "standard input", &error);
-                return Input {
-                    read: false,
-                    count: 0,
-                };
-            }
+        match reader.read(&mut buffer[count..]).map_err(Failure::Input)? {
+            0 => break,
+            n => count += n,
         }
     }
-    Input {
-        read: true,
-        count: count,
-    }
+    Ok(count)
 }
 
-// For the crates above: writes bytes to standard output. The answer is whether that could be done; where it could not, standard error
-// says why.
-pub fn write_output(rt: &(impl Print + Eprint), bytes: &[u8]) -> bool {
-    match rt.write_all(bytes) {
-        Ok(()) => true,
-        Err(error) => {
-            say_failure(rt, "standard output", &error);
-            false
-        }
+// For the crates above: writes bytes to standard output.
+pub fn write_output(rt: &impl Print, bytes: &[u8]) -> Result<(), Failure> {
+    rt.write_all(bytes).map_err(Failure::Output)
+}
+
+// For the crates above: where a stream failed, standard error says which and why. The program ends as ever.
+pub fn say_failure(rt: &impl Eprint, outcome: Result<(), Failure>) {
+    if let Err(failure) = outcome {
+        let _ = eprintln!(rt; "{failure}");
     }
 }
