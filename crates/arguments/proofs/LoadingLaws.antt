@@ -228,55 +228,53 @@ made_all {s} {bytes} {i} {used} {cells} {cells'} {numbers} {at} e x =
     let y = subst (λ (j : ℕ). MadeFrom s bytes j used cells cells' numbers at) e x in
     record { taken = y.taken; heap = y.heap; values = y.values; low = y.low; kept = y.kept; known = y.known }
 
-module _ {file bytes : List ℕ} (a : Loading file bytes) (i : ℕ) (pos : 0 < i) (inside : i ≤ length bytes) {c' : ℕ}
-    (ec : c' ≡ get_or bytes (i - 1) 0) where
+module _ {file bytes : List ℕ} (a : Loading file bytes) (i : ℕ) (inside : i < length bytes) {c' : ℕ} (ec : c' ≡ get_or bytes i 0) where
   byte_read : (c' < byte_at (payload file) 2) × (constructor_arity file c' ≡ arity (program_in file) c') × (arity (program_in file) c' ≤ 4)
-  byte_read = constructor_read a.parsed c' (omega (arith, ec, argument_known a (i - 1) (omega arith)))
+  byte_read = constructor_read a.parsed c' (omega (arith, ec, argument_known a i inside))
 
   -- what reading the byte's arity asks
   pub byte_known : Parsed file × (c' < byte_at (payload file) 2)
   byte_known = (a.parsed, byte_read.0)
 
   module _ {n' : ℕ} (en : n' ≡ constructor_arity file c') where
-    arity_read : n' ≡ arity (program_in file) (get_or bytes (i - 1) 0)
+    arity_read : n' ≡ arity (program_in file) (get_or bytes i 0)
     arity_read = en ∙ byte_read.1 ∙ ap (arity (program_in file)) ec
 
     pub byte_few : n' ≤ 4
     byte_few = omega (arith, en, byte_read.1, byte_read.2)
 
     -- the cells that the bytes from here on take
-    counted_byte : cells_loaded (program_in file) (drop (i - 1) bytes)
-        ≡ one_unless_constant n' + cells_loaded (program_in file) (drop i bytes)
-    counted_byte = let e : i - 1 + 1 ≡ i = omega arith in rw arity_read (rw e at (counted_here a (i - 1) (omega arith)))
+    counted_byte : cells_loaded (program_in file) (drop i bytes)
+        ≡ one_unless_constant n' + cells_loaded (program_in file) (drop (i + 1) bytes)
+    counted_byte = rw arity_read (counted_here a i inside)
 
-    pub counted_constant : n' ≡ 0 → cells_loaded (program_in file) (drop (i - 1) bytes) ≡ cells_loaded (program_in file) (drop i bytes)
+    pub counted_constant : n' ≡ 0 → cells_loaded (program_in file) (drop i bytes) ≡ cells_loaded (program_in file) (drop (i + 1) bytes)
     counted_constant None = omega (arith, counted_byte, ap one_unless_constant None)
 
     pub counted_cell : (n' ≡ 0 → ⊥)
-        → cells_loaded (program_in file) (drop (i - 1) bytes) ≡ 1 + cells_loaded (program_in file) (drop i bytes)
+        → cells_loaded (program_in file) (drop i bytes) ≡ 1 + cells_loaded (program_in file) (drop (i + 1) bytes)
     counted_cell any = omega (arith, counted_byte, one_cell n' (omega (arith, any)))
 
-    module _ {used : ℕ} {cells cells' numbers : List ℕ} {at : ℕ} (x : MadeFrom (program_in file) bytes i used cells cells' numbers at) where
-      before : MadeFrom (program_in file) bytes (i - 1 + 1) used cells cells' numbers at
-      before =
-          let e : i ≡ i - 1 + 1 = omega arith in
-          subst (λ (k : ℕ). MadeFrom (program_in file) bytes k used cells cells' numbers at) e x
+    -- from the cells of the bytes behind it
+    module _ {j used : ℕ} (ej : j ≡ i + 1) {cells cells' numbers : List ℕ} {at : ℕ}
+        (y : MadeFrom (program_in file) bytes j used cells cells' numbers at) where
+      x : MadeFrom (program_in file) bytes (i + 1) used cells cells' numbers at
+      x = subst (λ (k : ℕ). MadeFrom (program_in file) bytes k used cells cells' numbers at) ej y
 
       pub byte_room : (at + n' ≤ 256) × (0 < at + n')
-      byte_room = rw arity_read (argument_room a (i - 1) (omega arith) before)
+      byte_room = rw arity_read (argument_room a i inside x)
 
       -- a cell for it is among those that the bytes take
       pub byte_fits : (n' ≡ 0 → ⊥) → used < cells_loaded (program_in file) bytes
-      byte_fits any = omega (arith, counted_cell any, x.taken, loaded_less (program_in file) (i - 1) bytes)
+      byte_fits any = omega (arith, counted_cell any, x.taken, loaded_less (program_in file) i bytes)
 
-      pub byte_constant : length numbers ≡ 256 → n' ≡ 0
-          → MadeFrom (program_in file) bytes (i - 1) used cells cells' (set numbers (at + n' - 1) c') (at + n' - 1)
-      byte_constant long None =
-          rw (arity_read, ec) (constant_more a (i - 1) (omega arith) before long (sym arity_read ∙ None))
+      pub byte_constant : length numbers ≡ 256 → n' ≡ 0 → {d : ℕ} → d ≡ get_or bytes i 0
+          → MadeFrom (program_in file) bytes i used cells cells' (set numbers (at + n' - 1) d) (at + n' - 1)
+      byte_constant long None ed = rw (arity_read, ed) (constant_more a i inside x long (sym arity_read ∙ None))
 
-      pub byte_cell : length numbers ≡ 256 → (n' ≡ 0 → ⊥) → {cells'' : List ℕ} → CellPut used c' (refs numbers at n') cells' cells''
-          → MadeFrom (program_in file) bytes (i - 1) (used + 1) cells cells'' (set numbers (at + n' - 1) (number_of used)) (at + n' - 1)
-      byte_cell long any {cells''} p =
-          let p₁ = subst (λ (y : ℕ). CellPut used y (refs numbers at n') cells' cells'') ec p in
-          let p₂ = subst (λ (y : ℕ). CellPut used (get_or bytes (i - 1) 0) (refs numbers at y) cells' cells'') arity_read p₁ in
-          rw (arity_read, add-one) (cell_more a (i - 1) (omega arith) before long (omega (arith, arity_read, any)) cells'' p₂)
+      pub byte_cell : length numbers ≡ 256 → (n' ≡ 0 → ⊥) → {d : ℕ} → d ≡ get_or bytes i 0 → {cells'' : List ℕ}
+          → CellPut used d (refs numbers at n') cells' cells''
+          → MadeFrom (program_in file) bytes i (used + 1) cells cells'' (set numbers (at + n' - 1) (number_of used)) (at + n' - 1)
+      byte_cell long any ed {cells''} p =
+          rw (arity_read, add-one)
+          (cell_more a i inside x long (omega (arith, arity_read, any)) cells'' (rw (ed, arity_read) at p))

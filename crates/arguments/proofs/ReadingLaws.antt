@@ -1,12 +1,12 @@
 -- Laws of the argument check: what each byte leaves to be read, and what is left of the whole check.
 use Prim.Native.Nat.{ℕ, ◌+◌, ◌-◌, ◌≤◌, ◌<◌}
-use mathlib.Core.Path.{◌≡◌, sym, ap, ◌∙◌, subst, refl}
-use mathlib.Core.List.{List, [], ◌∷◌, ◌++◌, append_assoc, append-nil}
+use mathlib.Core.Path.{◌≡◌, sym, ap, ◌∙◌}
+use mathlib.Core.List.{List, [], ◌∷◌, ◌++◌, append-nil}
 use Rattle.std.specs.Prelude.{None, Some}
 use native.Mathlib.Omega.{arith}
 use native.Mathlib.Numerals.{add-one}
-use lib.ListN.{length, get_or, set, take, drop, length-append, length-drop, length-take, drop_of_length-le}
-use lib.Seq.{sets, sets-eq, length-sets, take-suc, drop-cons, drop-append_seam}
+use lib.ListN.{length, get_or, take, drop, length-append, length-drop, length-take, drop_of_length-le}
+use lib.Seq.{drop-cons, drop-append_seam, drop-drop}
 use borrow.Author.Tests.{eq-eqb, ne_eqb, le-leb, lt-leb}
 use Rattle.rules.specs.declared.records.Declaration.{Declaration}
 use Rattle.rules.specs.Base.{refusal, found, refused, Check, passed, byte_at}
@@ -17,67 +17,41 @@ use Rattle.rules.specs.Records.{program_in}
 use Rattle.rules.specs.There.{RecordsThere}
 use Rattle.rules.specs.Established.{Verified, Parsed}
 use Rattle.rules.specs.Prefix.{read_byte, read_bytes, arguments_right}
-use Rattle.rules.proofs.ListLaws.{sets_append}
 use Rattle.rules.proofs.NumberedLaws.{numbered_past}
 use Rattle.rules.proofs.RecordLaws.{arguments_length, records_there}
 use Rattle.fetch.proofs.IndexLaws.{constructor_is}
 use Rattle.arguments.specs.Reading.{HeadThere, ReadsByte}
-use native.Mathlib.Nat.{add-zero}
-
----- Putting types
-
-put_more : (l : List ℕ) (at : ℕ) (xs : List ℕ) (j : ℕ) (l' : List ℕ) → j < length xs → l' ≡ sets l at (take j xs)
-    → set l' (at + j) (get_or xs j 0) ≡ sets l at (take (j + 1) xs)
-put_more l at xs j l' h e =
-    let n : length (take j xs) ≡ j = length-take j xs ∙ omega arith in
-    let t : take (j + 1) xs ≡ take j xs ++ (get_or xs j 0 ∷ []) = rw add-one (take-suc xs j 0 h) in
-    sym (ap (sets l at) t ∙ sets_append l at (take j xs) (get_or xs j 0 ∷ []) ∙ rw (n, ← e))
-
--- one to four types
-module _ (l : List ℕ) (at : ℕ) (xs : List ℕ) (four : length xs ≡ 4) where
-  pub put_one : set l at (get_or xs 0 0) ≡ sets l at (take 1 xs)
-  put_one = rw add-zero at (put_more l at xs 0 l (omega arith) refl)
-
-  pub put_two : set (set l at (get_or xs 0 0)) (at + 1) (get_or xs 1 0) ≡ sets l at (take 2 xs)
-  put_two = put_more l at xs 1 _ (omega arith) put_one
-
-  pub put_three : set (set (set l at (get_or xs 0 0)) (at + 1) (get_or xs 1 0)) (at + 2) (get_or xs 2 0) ≡ sets l at (take 3 xs)
-  put_three = put_more l at xs 2 _ (omega arith) put_two
-
-  pub put_four : set (set (set (set l at (get_or xs 0 0)) (at + 1) (get_or xs 1 0)) (at + 2) (get_or xs 2 0)) (at + 3) (get_or xs 3 0)
-      ≡ sets l at (take 4 xs)
-  put_four = put_more l at xs 3 _ (omega arith) put_three
-
-drop_put : (l : List ℕ) (at : ℕ) (vs : List ℕ) → at + length vs ≤ length l → drop at (sets l at vs) ≡ vs ++ drop (at + length vs) l
-drop_put l at vs h =
-    let n : length (take at l) ≡ at = length-take at l ∙ omega arith in
-    ap (drop at) (sets-eq vs l at h) ∙ subst (λ (k : ℕ). drop k (take at l ++ vs ++ drop (at + length vs) l) ≡ vs
-    ++ drop (at + length vs) l) n (rw append_assoc (drop-append_seam (take at l) (vs ++ drop (at + length vs) l)))
 
 ---- One byte
 
-module _ (s : Program) (c at : ℕ) (types : List ℕ) (long : length types ≡ 256) where
-  pub read_end : 256 ≤ at → ReadsByte s c at types types 257
-  unfolding read_byte
-  read_end h = record { says = λ o. rw (drop_of_length-le types {i = at} (omega arith)); inside = omega arith; long = long }
+-- the types from a place on, after types were put there in the place of m
+put_on : (l : List ℕ) (at m : ℕ) (vs : List ℕ) → at ≤ length l → drop at (take at l ++ (vs ++ drop m (drop at l))) ≡ vs ++ drop (at + m) l
+put_on l at m vs h =
+    let n : length (take at l) ≡ at = length-take at l ∙ omega arith in
+    rw n at (drop-append_seam (take at l) (vs ++ drop m (drop at l))) ∙ ap (◌++◌ vs) (drop-drop m at l)
 
-  module _ (l : at < 256) where
+module _ (s : Program) (c at : ℕ) (types : List ℕ) where
+  pub read_end : length types ≤ at → {types' : List ℕ} → ReadsByte s c at types types' None
+  unfolding read_byte
+  read_end h = record { says = λ o. rw (drop_of_length-le types {i = at} h); inside = tt }
+
+  module _ (long : length types ≡ 256) (l : at < 256) where
     next : drop at types ≡ get_or types at 0 ∷ drop (at + 1) types
     next = let h : at < length types = omega arith in rw (add-one, drop-cons types at 0)
 
-    pub read_unknown : constructor s c ≡ None → ReadsByte s c at types types 257
+    pub read_unknown : constructor s c ≡ None → {types' : List ℕ} → ReadsByte s c at types types' None
     unfolding read_byte
-    read_unknown e = record { says = λ o. rw (next, e); inside = omega arith; long = long }
+    read_unknown e = record { says = λ o. rw (next, e); inside = tt }
 
     module _ (k : Constructor) (e : constructor s c ≡ Some k) where
       room : (length (k.arguments ++ drop (at + 1) types) ≡ length k.arguments + (255 - at))
       room = length-append k.arguments (drop (at + 1) types) ∙ omega (arith, length-drop (at + 1) types)
 
-      pub read_type : (k.result ≡ get_or types at 0 → ⊥) → ReadsByte s c at types types 257
+      pub read_type : (k.result ≡ get_or types at 0 → ⊥) → {types' : List ℕ} → ReadsByte s c at types types' None
       unfolding read_byte
-      read_type n = record { says = λ o. rw (next, e) (simp (ne_eqb k.result (get_or types at 0) n)); inside = omega arith; long = long }
+      read_type n = record { says = λ o. rw (next, e) (simp (ne_eqb k.result (get_or types at 0) n)); inside = tt }
 
-      pub read_many : k.result ≡ get_or types at 0 → at + 1 < length k.arguments → ReadsByte s c at types types 257
+      pub read_many : k.result ≡ get_or types at 0 → at + 1 < length k.arguments → {types' : List ℕ} → ReadsByte s c at types types' None
       unfolding read_byte
       read_many q h = record {
         says =
@@ -86,25 +60,21 @@ module _ (s : Program) (c at : ℕ) (types : List ℕ) (long : length types ≡ 
               lt-leb
                   (length (k.arguments ++ drop (at + 1) types)) 256 (omega (arith, room)),
             ));
-        inside = omega arith;
-        long = long;
+        inside = tt;
       }
 
-      read_right : k.result ≡ get_or types at 0 → length k.arguments ≤ at + 1
-          → ReadsByte s c at types (sets types (at + 1 - length k.arguments) k.arguments) (at + 1 - length k.arguments)
+      read_right : k.result ≡ get_or types at 0 → (to m : ℕ) → to + m ≡ at + 1 → m ≡ length k.arguments
+          → ReadsByte s c at types (take to types ++ (k.arguments ++ drop m (drop to types))) (Some to)
       unfolding read_byte
-      read_right q h = record {
+      read_right q to m b h = record {
         says = λ o.
-            let b : at + 1 - length k.arguments + length k.arguments ≡ at + 1 = omega arith in
-            let d = rw b at (drop_put types (at + 1 - length k.arguments) k.arguments (omega arith)) in
+            let d = rw b at (put_on types to m k.arguments (omega arith)) in
             rw (next, e) (simp (
-              ne_eqb (at + 1 - length k.arguments) 257 (λ x. omega arith),
               eq-eqb k.result (get_or types at 0) q,
               le-leb (length (k.arguments ++ drop (at + 1) types)) 256
                   (omega (arith, room)),
             ) (ap found d));
         inside = omega arith;
-        long = length-sets types (at + 1 - length k.arguments) k.arguments ∙ long;
       }
 
 ---- The constructors of a parsed file, in the code's words
@@ -137,13 +107,10 @@ module _ {file : List ℕ} (parsed : Parsed file) where
       unfolding constructor_of
       declared = constructor_is (payload file) c (omega arith) ∙ rw ed
 
-      pub byte_right : (at : ℕ) (types : List ℕ) → length types ≡ 256 → at < 256 → d.result ≡ get_or types at 0 → (n : ℕ) → n ≡ d.arity
-          → n ≤ at + 1
-          → (types' : List ℕ) → types' ≡ sets types (at + 1 - n) (arguments_of d)
-          → ReadsByte (program_in file) c at types types' (at + 1 - n)
-      byte_right at types long l q n e h types' p =
-          let m : n ≡ length (arguments_of d) = e ∙ sym declared_arity.0 in
-          rw (p, m) (read_right (program_in file) c at types long l _ declared q (omega arith))
+      pub byte_right : (at : ℕ) (types : List ℕ) → length types ≡ 256 → at < 256 → d.result ≡ get_or types at 0 → {l part : List ℕ}
+          → l ≡ arguments_of d → part ≡ l → (to m : ℕ) → to + m ≡ at + 1 → m ≡ length l
+          → ReadsByte (program_in file) c at types (take to types ++ (part ++ drop m (drop to types))) (Some to)
+      byte_right at types long l q e p to m b n = rw (p, e) (read_right (program_in file) c at types long l _ declared q to m b (rw e at n))
 
 ---- The whole check
 
@@ -153,45 +120,40 @@ pub record Reading (s : Program) (bytes parameters : List ℕ) (i : ℕ) (types 
   pub low : at ≤ 256
   pub long : length types ≡ 256
 
-reading_start : (s : Program) (bytes parameters types : List ℕ) → length types ≡ 256 → length parameters ≤ 256
-    → Reading s bytes parameters 0 (sets types (256 - length parameters) parameters) (256 - length parameters)
-reading_start s bytes parameters types long few = record {
+reading_start : (s : Program) (bytes parameters types : List ℕ) → length types ≡ 256 → (at m : ℕ) → at + m ≡ 256 → m ≡ length parameters
+    → Reading s bytes parameters 0 (take at types ++ (parameters ++ drop m (drop at types))) at
+reading_start s bytes parameters types long at m b n = record {
   left =
-      let e : 256 - length parameters + length parameters ≡ 256 = omega arith in
-      let d = rw e at (drop_put types (256 - length parameters) parameters (omega arith)) in
+      let d = rw b at (put_on types at m parameters (omega arith)) in
       sym (ap (read_bytes s 0 bytes) (d ∙ ap (λ (l : List ℕ). parameters ++ l) (drop_of_length-le types {i = 256} (omega arith))
       ∙ append-nil parameters));
   low = omega arith;
-  long = length-sets types (256 - length parameters) parameters ∙ long;
+  long = simp (length-append, length-drop, length-take) (omega arith);
 }
 
 module _ (s : Program) (bytes parameters : List ℕ) (i : ℕ) (types : List ℕ) (at : ℕ) (x : Reading s bytes parameters i types at) where
-  module _ (l : i < length bytes) (types' : List ℕ) (r : ℕ) (c : ℕ) (ec : c ≡ get_or bytes i 0) (b : ReadsByte s c at types types' r) where
+  module _ (l : i < length bytes) (types' : List ℕ) (c : ℕ) (ec : c ≡ get_or bytes i 0) where
     first : drop i bytes ≡ c ∷ drop (i + 1) bytes
     first = rw (add-one, drop-cons bytes i 0, ec)
 
-    pub reading_next : (r ≡ 257 → ⊥) → Reading s bytes parameters (i + 1) types' r
+    pub reading_next : {next : ℕ} → ReadsByte s c at types types' (Some next) → length types' ≡ 256
+        → Reading s bytes parameters (i + 1) types' next
     unfolding read_bytes
-    reading_next n =
-        let says : found (drop r types') ≡ read_byte s i c (drop at types) = simp (ne_eqb r 257 n) at (b.says i) in
-        let low : r ≤ 256 = omega (arith, b.inside, n) in
-        record { left = x.left ∙ rw (first, ← says, add-one); low = low; long = b.long }
+    reading_next b long = record { left = x.left ∙ rw (first, ← b.says i, add-one); low = b.inside; long = long }
 
-    pub reading_stop : r ≡ 257 → read_bytes s 0 bytes parameters ≡ refused (refusal 12 i 0)
+    pub reading_stop : ReadsByte s c at types types' None → read_bytes s 0 bytes parameters ≡ refused (refusal 12 i 0)
     unfolding read_bytes
-    reading_stop e =
-        let says : refused (refusal 12 i 0) ≡ read_byte s i c (drop at types) = simp (eq-eqb r 257 e) at (b.says i) in
-        x.left ∙ rw (first, ← says)
+    reading_stop b = x.left ∙ rw (first, ← b.says i)
 
-  module _ (l : length bytes ≤ i) where
+  module _ (l : i ≡ length bytes) where
     last : drop i bytes ≡ []
-    last = drop_of_length-le bytes {i = i} l
+    last = drop_of_length-le bytes {i = i} (omega arith)
 
-    pub reading_short : at < 256 → read_bytes s 0 bytes parameters ≡ refused (refusal 12 i 0)
+    pub reading_short : at < 256 → read_bytes s 0 bytes parameters ≡ refused (refusal 12 (length bytes) 0)
     unfolding read_bytes
     reading_short h =
         let m : at < length types = omega (arith, x.long) in
-        x.left ∙ rw (last, drop-cons types at 0)
+        x.left ∙ rw (last, drop-cons types at 0, l)
 
     pub reading_whole : 256 ≤ at → read_bytes s 0 bytes parameters ≡ passed
     unfolding read_bytes
@@ -202,13 +164,11 @@ module _ (p : List ℕ) (head : ℕ) (there : HeadThere p head) (d : Declaration
   pub head_arity : (length (arguments_of d) ≡ d.arity) × (d.arity ≤ 4)
   head_arity = rw ed (arguments_length p head there.few, there.few)
 
-  pub parameters_put : (s : Program) (bytes : List ℕ) (n : ℕ) → n ≡ d.arity → (types types' : List ℕ) → length types ≡ 256
-      → types' ≡ sets types (256 - n) (arguments_of d)
-      → Reading s bytes (arguments_of (declaration_at p head)) 0 types' (256 - n)
-  parameters_put s bytes n e types types' long q =
-      let m : n ≡ length (arguments_of d) = e ∙ sym head_arity.0 in
-      subst (λ (x : Declaration). Reading s bytes (arguments_of x) 0 types' (256 - n)) ed
-      (rw (q, m) (reading_start s bytes (arguments_of d) types long (omega (arith, head_arity))))
+  pub parameters_put : (s : Program) (bytes types : List ℕ) → length types ≡ 256 → {l part : List ℕ} → l ≡ arguments_of d → part ≡ l
+      → (at m : ℕ) → at + m ≡ 256 → m ≡ length l
+      → Reading s bytes (arguments_of (declaration_at p head)) 0 (take at types ++ (part ++ drop m (drop at types))) at
+  parameters_put s bytes types long e q at m b n =
+      rw (q, e, ed) (reading_start s bytes (arguments_of (declaration_at p head)) types long at m b (rw (e, ed) at n))
 
 module _ (s : Program) (p : List ℕ) (head : ℕ) (bytes : List ℕ) where
   pub arguments_long : 65535 < length bytes → refused (refusal 12 65535 0) ≡ arguments_right s (function_of p head) bytes

@@ -1,6 +1,5 @@
 // The argument check: one type after the other is read, and each constructor puts its argument types in place of its own.
-ghost use Rattle.std.specs.Prelude.{◌≡◌, ◌+◌, ◌≤◌, length};
-ghost use Rattle.std.proofs.lemmas.List.Edits.{sets};
+ghost use Rattle.std.specs.Prelude.{◌≡◌, ◌≤◌, length};
 ghost use Rattle.rules.specs.Base.{byte_at};
 ghost use Rattle.rules.specs.Answers.{told};
 ghost use Rattle.rules.specs.Container.{payload};
@@ -9,86 +8,63 @@ ghost use Rattle.rules.specs.Established.{Parsed};
 ghost use Rattle.rules.specs.Prefix.{arguments_right};
 ghost use Rattle.arguments.specs.Reading.{HeadThere, ReadsByte};
 
-use readers::wide;
-use rules::answers::{Checked, Reason};
+use rules::answers::Reason;
 use rules::records::Declaration;
 
-// The argument types of a declaration, four at most, are put at a place.
-fn put_types(types: &mut [u8; 256], at: usize, d: Declaration)
-    requires { (d.arity ≤ 4) × (length d.types ≡ 4) × (at + d.arity ≤ 256) }
-    ensures { types.new ≡ sets types.old at (arguments_of d) }
+// The argument types of a declaration.
+fn arguments_of(d: &Declaration) -> &[u8]
+    requires { d.now.arity ≤ 4 }
+    ensures types { result.now ≡ arguments_of d.now }
+    ensures count { length result.now ≡ d.now.arity }
 {
-    let n = d.arity;
-    let four = d.types;
-    if n == 0 {
-        return;
-    }
-    types[at] = four[0];
-    if n == 1 {
-        return;
-    }
-    types[at + 1] = four[1];
-    if n == 2 {
-        return;
-    }
-    types[at + 2] = four[2];
-    if n == 3 {
-        return;
-    }
-    types[at + 3] = four[3];
+    &d.types[..usize::from(d.arity)]
 }
 
-// One byte of the arguments: from where on the types stand that are still to be read, or 257 where the byte is wrong.
-fn read_byte(file: &[u8], known: usize, types: &mut [u8; 256], at: usize, c: usize) -> usize
+// One byte of the arguments: from where on the types stand that are still to be read, or none where the byte is wrong.
+fn read_byte(file: &[u8], known: usize, types: &mut [u8; 256], at: usize, c: usize) -> Option<usize>
     requires parsed { Parsed file.now }
-    requires at_bound { (at ≤ 256) × (length types.old ≡ 256) × (known ≡ byte_at (payload file.now) 2) }
+    requires at_bound { (at ≤ 256) × (known ≡ byte_at (payload file.now) 2) }
     ensures { ReadsByte (program_in file.now) c at types.old types.new result }
 {
-    if at >= 256 {
-        return 257;
-    }
-    if c >= known {
-        return 257;
+    if at >= 256 || c >= known {
+        return None;
     }
     let d = readers::constructor_declaration(file, c);
-    let arity = wide(d.arity);
-    if d.result != types[at] {
-        return 257;
+    let arguments = arguments_of(&d);
+    if d.result != types[at] || arguments.len() > at + 1 {
+        return None;
     }
-    if arity > at + 1 {
-        return 257;
-    }
-    let next = at + 1 - arity;
-    put_types(types, next, d);
-    next
+    let next = at + 1 - arguments.len();
+    types[next..at + 1].copy_from_slice(arguments);
+    Some(next)
 }
 
 // For the crates above: 12, the argument bytes, one after the other, for the function whose head stands at an offset.
-pub fn check_arguments(file: &[u8], head: usize, bytes: &[u8]) -> Checked
+pub fn check_arguments(file: &[u8], head: usize, bytes: &[u8]) -> Result<(), Reason>
     requires parsed { Parsed file.now }
     requires head_there { HeadThere (payload file.now) head }
     ensures { told result ≡ arguments_right (program_in file.now) (function_of (payload file.now) head)
         bytes.now }
 {
     if bytes.len() > 65535 {
-        return Checked::Refused(Reason::ArgumentsTooLong);
+        return Err(Reason::ArgumentsTooLong);
     }
-    let known = wide(blocks::payload_byte(file, 2));
+    let known = usize::from(blocks::payload_byte(file, 2));
     let d = readers::declaration(file, head);
+    let parameters = arguments_of(&d);
     let mut types = [0u8; 256];
-    let mut at = 256 - wide(d.arity);
-    put_types(&mut types, at, d);
-    let mut i: usize = 0;
-    while i < bytes.len() {
-        let next = read_byte(file, known, &mut types, at, wide(bytes[i]));
-        if next == 257 {
-            return Checked::Refused(Reason::BadArgument { offset: i });
-        }
+    let mut at = 256 - parameters.len();
+    types[at..].copy_from_slice(parameters);
+    for (i, &c) in bytes.iter().enumerate() {
+        let Some(next) = read_byte(file, known, &mut types, at, usize::from(c)) else {
+            return Err(Reason::BadArgument { offset: i });
+        };
         at = next;
-        i += 1;
     }
     if at < 256 {
-        return Checked::Refused(Reason::BadArgument { offset: i });
+        return Err(Reason::BadArgument {
+            offset: bytes.len(),
+        });
     }
-    Checked::Right
+    Ok(())
 }

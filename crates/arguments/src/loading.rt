@@ -5,7 +5,6 @@ ghost use Rattle.rules.specs.Run.{cells_loaded};
 ghost use Rattle.arguments.specs.Loading.{Loading, Roomy, MadeFor};
 
 use fetch::constructor_arity;
-use readers::wide;
 use store::put_cell;
 
 // The references that no cell has taken yet, from a place on, and how many cells are made.
@@ -21,11 +20,9 @@ fn cells_needed(file: &[u8], bytes: &[u8]) -> usize
     requires { Loading file.now bytes.now }
     ensures { result ≡ cells_loaded (program_in file.now) bytes.now }
 {
-    let mut needed: usize = 0;
-    let mut i = bytes.len();
-    while 0 < i {
-        i -= 1;
-        if constructor_arity(file, wide(bytes[i])) != 0 {
+    let mut needed = 0;
+    for &c in bytes {
+        if constructor_arity(file, usize::from(c)) != 0 {
             needed += 1;
         }
     }
@@ -37,10 +34,7 @@ pub fn enough(file: &[u8], bytes: &[u8], cells: usize) -> bool
     requires { Loading file.now bytes.now }
     ensures { result ≡ leb (cells_loaded (program_in file.now) bytes.now) cells }
 {
-    if bytes.len() <= cells {
-        return true;
-    }
-    cells_needed(file, bytes) <= cells
+    bytes.len() <= cells || cells_needed(file, bytes) <= cells
 }
 
 // For the crates above: the arguments' cells, from the last byte to the first, constants skipped.
@@ -50,14 +44,11 @@ pub fn make_arguments(file: &[u8], bytes: &[u8], cells: &mut [u16]) -> Pending
         result.at result.used }
 {
     let mut numbers = [0u16; 256];
-    let mut at: usize = 256;
-    let mut used: usize = 0;
-    let mut i = bytes.len();
-    while 0 < i {
-        i -= 1;
-        let c = wide(bytes[i]);
-        let n = constructor_arity(file, c);
-        let mut number = c as u16;
+    let mut at = 256;
+    let mut used = 0;
+    for i in (0..bytes.len()).rev() {
+        let n = constructor_arity(file, usize::from(bytes[i]));
+        let mut number = u16::from(bytes[i]);
         if n != 0 {
             number = put_cell(cells, used, number, &numbers, at, n);
             used += 1;
