@@ -26,6 +26,14 @@ each_of_four P a b c d (suc (suc zero)) h = c
 each_of_four P a b c d (suc (suc (suc zero))) h = d
 each_of_four P a b c d (suc (suc (suc (suc j)))) h = absurd (omega arith)
 
+---- One alternative
+
+-- of four marks: those below j have taken in the coefficients, the others are as they were
+pub record Marked (before : List Bool) (four : List ℕ) (j : ℕ) (marks : List Bool) : Type 0 where
+  pub long : length marks ≡ 4
+  pub done : (i : ℕ) → i < j → get_or marks i false ≡ (get_or before i false || ltb 0 (get_or four i 0))
+  pub left : (i : ℕ) → j ≤ i → get_or marks i false ≡ get_or before i false
+
 ---- The alternatives
 
 -- k of m alternatives are read: what was found in them, and what can still be found in the others
@@ -91,13 +99,14 @@ module _ {bytes : List ℕ} {at : ℕ} (t : FunctionThere bytes at) where
         let fits : alternative_offset at last + 6 ≤ length bytes = (t.alternative last (omega (arith, t.some_alternatives))).0 in
         rw is (omega (arith, t.some_alternatives))
 
-    pub bound_pass : (g : ℕ) → bound_rule g (function_of bytes at) ≡ for_each (argument_check bytes at g) 0 h.declaration.arity
+    pub bound_pass : (g : ℕ) {m : ℕ} → m ≡ h.declaration.arity
+        → bound_rule g (function_of bytes at) ≡ for_each (argument_check bytes at g) 0 m
     unfolding bound_rule argument_rule function_of
-    bound_pass g =
+    bound_pass g e =
         each_from_one (argument_rule g (function_of bytes at)) (argument_check bytes at g) (λ i x. rw (add-one i)) 0
         (arguments_of (declaration_at bytes at))
         ∙ ap (for_each (argument_check bytes at g) 0)
-        (arguments_length bytes at t.arity ∙ sym (ap (λ (x : HeadRecord). x.declaration.arity) is))
+        (arguments_length bytes at t.arity ∙ sym (e ∙ ap (λ (x : HeadRecord). x.declaration.arity) is))
 
     -- an argument within the arity is found as the code looks for it
     pub argument_says : (g k : ℕ) {b : Bool} → k < h.declaration.arity → b ≡ positive_in bytes at 0 h.alternatives k

@@ -1,13 +1,15 @@
 -- 5 as the code tests it.
-use mathlib.Core.Path.{◌≡◌, sym, ap, ap₂, ◌∙◌}
+use mathlib.Core.Path.{◌≡◌, refl, sym, ap, ap₂, ◌∙◌}
 use mathlib.Core.List.{List, ◌∷◌}
-use mathlib.Core.Bool.{Bool, ◌&&◌}
+use mathlib.Core.Bool.{Bool, ◌&&◌, ◌||◌, or-false}
 use Prim.Native.Nat.{ℕ, ◌<◌}
-use borrow.Author.Tests.{lt-ltb}
+use lib.Dec.{eqb, ltb}
+use native.Mathlib.Omega.{arith}
+use borrow.Author.Tests.{lt-ltb, ne_eqb}
 use Rattle.rules.specs.declared.records.Header.{Header}
 use Rattle.rules.specs.declared.records.Declaration.{Declaration}
 use Rattle.rules.specs.declared.records.ConstructorRecord.{ConstructorRecord}
-use Rattle.rules.specs.Base.{refusal, ◌>>=◌, Check, require, each}
+use Rattle.rules.specs.Base.{is_zero, refusal, ◌>>=◌, Check, require, each}
 use Rattle.rules.specs.Container.{payload}
 use Rattle.rules.specs.Program.{Program}
 use Rattle.rules.specs.Declarations.{all_below, weight_right, constructor_rule, signature_rule, declarations_right}
@@ -19,6 +21,13 @@ use Rattle.program.proofs.LayoutLaws.{types_count}
 pub below_all : (types : ℕ) (d : Declaration) {v : Bool} → d.result < types → all_below types (arguments_of d) ≡ v
     → v ≡ all_below types (d.result ∷ arguments_of d)
 below_all types d h e = sym (rw (lt-ltb d.result types h) e)
+
+-- a weight is right by the arity
+pub weight_none : (a w : ℕ) → a ≡ 0 → eqb w 0 ≡ (is_zero a && is_zero w || ltb 0 a && ltb 0 w)
+weight_none a w e = rw (e, or-false (eqb w 0)) refl
+
+pub weight_some : (a w : ℕ) → (a ≡ 0 → ⊥) → ltb 0 w ≡ (is_zero a && is_zero w || ltb 0 a && ltb 0 w)
+weight_some a w e = rw (ne_eqb a 0 e, lt-ltb 0 a (omega arith)) refl
 
 module _ {file : List ℕ} {h : Header} (o : Headed file h) where
   pub constructor_says : (k at : ℕ) {c : ConstructorRecord} {r : Bool} → c ≡ constructor_at (payload file) at

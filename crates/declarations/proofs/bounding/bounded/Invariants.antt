@@ -1,5 +1,4 @@
 -- `bounded` meets its contract: at each turn what is left to check is the functions from `g` on.
-use Prim.Native.Nat.{◌-◌}
 use Rattle.rules.specs.Container.{payload}
 use Rattle.rules.specs.Declarations.{bound_rule}
 use Rattle.rules.proofs.PassLaws.{Passing}
@@ -7,7 +6,4 @@ use Rattle.program.proofs.LayoutLaws.{at_function}
 use Rattle.declarations.proofs.bounding.bounded.Given as goal
 
 abbrev pub invariant-loop-g : goal.invariant-loop-g
-invariant-loop-g l = Passing (at_function bound_rule (payload l.file)) l.m l.g
-
-abbrev pub decreases-loop-g : goal.decreases-loop-g
-decreases-loop-g l = l.m - l.g
+invariant-loop-g l = Passing (at_function bound_rule (payload l.file)) l.layout.header.functions l.g

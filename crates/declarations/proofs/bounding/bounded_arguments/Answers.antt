@@ -1,5 +1,5 @@
 -- `bounded_arguments` meets its contract: at each turn an argument was found, or is still to be found in the alternatives from `k` on.
-use mathlib.Core.Path.{refl, ap, ◌∙◌}
+use Rattle.std.proofs.Common.{refl, ap, arith, ◌∙◌}
 use Rattle.rules.specs.Container.{payload}
 use Rattle.rules.specs.Records.{alternative_at}
 use Rattle.declarations.proofs.BoundLaws.{each_of_four, find_first, find_next, find_end}
@@ -10,9 +10,9 @@ loop-k-init c = find_first (each_of_four _ refl refl refl refl)
 
 pub loop-k-preserved : goal.loop-k-preserved
 loop-k-preserved c =
-    find_next c.loop-k.invariant c.loop-k-test.true
+    find_next c.loop-k.invariant (omega arith)
     (c.alternative-a.ensures ∙ ap (alternative_at (payload c.args.file.now)) c.alternative_offset.ensures)
-    c.joined-next.ensures
+    c.mark.ensures
 
 pub returns : goal.returns
-returns c = find_end c.loop-k.invariant c.loop-k-test.false
+returns c = find_end c.loop-k.invariant (omega arith)

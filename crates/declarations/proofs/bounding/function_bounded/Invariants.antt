@@ -1,12 +1,8 @@
 -- `function_bounded` meets its contract: at each turn what is left to check is the arguments from `k` on.
-use Prim.Native.Nat.{◌-◌}
 use Rattle.rules.specs.Container.{payload}
 use Rattle.rules.proofs.PassLaws.{Passing}
 use Rattle.declarations.proofs.BoundLaws.{argument_check}
 use Rattle.declarations.proofs.bounding.function_bounded.Given as goal
 
 abbrev pub invariant-loop-k : goal.invariant-loop-k
-invariant-loop-k l = Passing (argument_check (payload l.file) l.at l.g) l.m l.k
-
-abbrev pub decreases-loop-k : goal.decreases-loop-k
-decreases-loop-k l = l.m - l.k
+invariant-loop-k l = Passing (argument_check (payload l.file) l.at l.g) l.k-end l.k
