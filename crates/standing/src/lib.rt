@@ -5,9 +5,11 @@ ghost use Rattle.std.specs.Prelude.{◌≡◌};
 ghost use Rattle.standing.specs.Found.{found_at};
 
 use extent::is_there;
-use fields::{Record, left_in_block, place_of};
+use fields::{left_in_block, place_of};
 
 mod extent; // extent.rt: how far the payload of lent blocks goes
+
+pub use fields::Record;
 
 // The record at an offset, if it is there whole.
 pub fn find<R: Record>(file: &[u8], at: usize) -> Option<R>
