@@ -89,14 +89,14 @@ module _ (file : List ℕ) (f : Function) (st : Saved) (r : SavedRight (program_
   abbrev s : Program
   s = program_in file
 
-  splits_length : length (splits_in st) ≡ st.taken
-  splits_length = let a = r.list in let b = r.few in length-take-le st.taken st.list (omega arith)
+  splits_length : length (splits_in st) ≡ st.splits.taken
+  splits_length = let a = r.list in let b = r.few in length-take-le st.splits.taken st.splits.list (omega arith)
 
   stack_length : length (stack_in st) ≡ st.height
   stack_length = let a = r.long in let b = r.high in length-take-le st.height st.stack (omega arith)
 
   -- what `carry` asks
-  carrying_of : (a : Alternative) → Loose (arity f) 65535 a → Carrying file a st.taken st.list
+  carrying_of : (a : Alternative) → Loose (arity f) 65535 a → Carrying file a st.splits.taken st.splits.list
   carrying_of a h =
       record {
         start = arity f;
@@ -108,7 +108,7 @@ module _ (file : List ℕ) (f : Function) (st : Saved) (r : SavedRight (program_
         long = r.list;
         weights =
             λ i l. let z = splits_length in
-            rw (get_or-take st.taken st.list i no_split l)
+            rw (get_or-take st.splits.taken st.splits.list i no_split l)
             at (weights (get_or (splits_in st) i no_split) (split_at s (splits_in st) i (omega arith) r.path.right));
       }
 
@@ -161,7 +161,7 @@ module _ (file : List ℕ) (f : Function) (st : Saved) (r : SavedRight (program_
   -- the function's own bound, as the code has it
   module _ (few : arity f ≤ 16) (b : Bound) (o : OwnBound (payload file) (arity f) b)
       (is : bound_in (payload file) (arity f) b ≡ f.bound) where
-    pub own_asks : OwnAsks file b (record { taken = st.taken; list = st.list })
+    pub own_asks : OwnAsks file b st.splits
     own_asks = record {
       bound = o.right;
       carrying =
@@ -182,7 +182,7 @@ module _ (file : List ℕ) (f : Function) (st : Saved) (r : SavedRight (program_
 
     -- all entries are covered, and small
     pub converted : (fs : List Form) (own : Form) → FormsAre file st st.height fs
-        → OwnIs file b (record { taken = st.taken; list = st.list }) own → LineRight s f (shape_in f st) own fs st.height
+        → OwnIs file b st.splits own → LineRight s f (shape_in f st) own fs st.height
     converted fs own a w =
         record {
           bound = w.right;
@@ -201,7 +201,7 @@ module _ (file : List ℕ) (f : Function) (st : Saved) (r : SavedRight (program_
         own_is : form_in own ≡ map (carried s (splits_in st)) (own_at s f)
         own_is =
             w.same
-            ∙ numbered_same (own_after file b (record { taken = st.taken; list = st.list }))
+            ∙ numbered_same (own_after file b st.splits)
             (λ k. carried s (splits_in st) (wide_row (alternative_of (arity f) (row_in (payload file) b k)))) b.count
             (λ k h. ap (carried s (splits_in st)) (o.padded k h))
             ∙ sym (map_numbered (λ a. carried s (splits_in st) (wide_row a)) (λ k. alternative_of (arity f) (row_in (payload file) b k))

@@ -21,7 +21,7 @@ use Rattle.rules.specs.Expressions.{Symbol, known, Expression, variables, replac
 use Rattle.rules.specs.Shapes.{covered_at, branch_on, split_variable, shape_from, shape_rule}
 use Rattle.rules.proofs.Models.{to_from}
 use Rattle.sizing.specs.declared.splits.Split.{Split}
-use Rattle.sizing.specs.Splits.{variable_e, split_e, through, Numbered, Whole, shape_of}
+use Rattle.sizing.specs.Splits.{variable_e, split_e, through, Numbered, Whole, shape_of, SplitRight, SplitsRight}
 use Rattle.sizing.specs.States.{up_from}
 use Rattle.sizing.proofs.SplitLaws.{through_more, through_whole, whole_new}
 use Rattle.sizing.proofs.OwnLaws.{variables_covered}
@@ -86,6 +86,10 @@ through_head p ps xs e =
 pub data Splitting (v : ℕ) : List Split → Split → Type 0 where
   now_split : {p : Split} {ps : List Split} → p.variable ≡ v → Splitting v (p ∷ ps) p
   later_split : {q p : Split} {ps : List Split} → (v ≡ q.variable → ⊥) → Splitting v ps p → Splitting v (q ∷ ps) p
+
+pub splitting_right : (s : Program) {v : ℕ} {ps : List Split} {p : Split} → Splitting v ps p → SplitsRight s ps → SplitRight s p
+splitting_right s (now_split e) r = r.0
+splitting_right s (later_split d g) r = splitting_right s g r.1
 
 splitting_first : {v : ℕ} {ps : List Split} {p : Split} (n count : ℕ) → Splitting v ps p → Numbered n ps count → n ≤ p.first
 splitting_first n count (now_split e) h = let z = h.1 in omega arith

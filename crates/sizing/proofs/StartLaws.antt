@@ -74,9 +74,9 @@ path_start s f few w mentioned =
     }
 
 pub branch_room : (s : Program) (f : Function) (st : Saved) → SavedRight s f st → top_of st < st.count → Whole (top_of st) (splits_in st)
-    → st.taken < 16
+    → st.splits.taken < 16
 branch_room s f st r h w =
     let a = r.list in let b = r.few in
-    let l = length-take-le st.taken st.list (omega arith) in
+    let l = length-take-le st.splits.taken st.splits.list (omega arith) in
     let z = room (splits_in st) st.count (top_of st) r.path.spare r.path.few h w in
     omega arith

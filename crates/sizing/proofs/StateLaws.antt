@@ -1,15 +1,19 @@
 -- What the code's saved states stand for: laws for each step.
-use mathlib.Core.Path.{◌≡◌, refl, sym, ap, ◌∙◌}
+use mathlib.Core.Path.{◌≡◌, refl, sym, ap, ◌∙◌, subst}
 use mathlib.Core.List.{List, [], ◌∷◌, ◌++◌, append_assoc}
-use Prim.Native.Nat.{ℕ, zero, suc, ◌+◌, ◌≤◌, ◌<◌}
+use Prim.Native.Nat.{ℕ, zero, suc, ◌+◌, ◌<◌}
 use native.Mathlib.Omega.{arith}
 use native.Mathlib.Numerals.{add-one}
 use native.Mathlib.Nat.{add-zero}
-use lib.ListN.{length, get_or, set, take}
-use lib.Seq.{get_or-take, length-take-le}
+use lib.ListN.{length, set, take}
+use lib.Dec.{eqb}
+use borrow.Author.Tests.{eqb-true, eqb-false}
+use Rattle.std.proofs.Common.{Bool, true, false, cond}
+use Rattle.std.specs.Prelude.{Some, None}
+use Rattle.rules.proofs.ListLaws.{none_some, some_inj}
 use Rattle.sizing.specs.declared.splits.Split.{Split}
-use Rattle.sizing.specs.Splits.{Whole, no_split}
-use Rattle.sizing.specs.States.{up_from, Found}
+use Rattle.sizing.specs.Splits.{Whole}
+use Rattle.sizing.specs.States.{up_from, split_of}
 use Rattle.sizing.proofs.ListLaws.{take_stored}
 use Rattle.sizing.proofs.ShapeLaws.{Splitting, now_split, later_split}
 
@@ -32,19 +36,22 @@ parts_next x l base first i h e =
     rw s (take_stored x (l ++ up_from first i) (base + i) (first + i) h e ∙ append_assoc l (up_from first i) ((first + i) ∷ [])
     ∙ ap (λ (z : List ℕ). l ++ z) (sym (up_more first i)))
 
--- a variable that was not found is whole, and one that was found is taken apart by that split
-pub whole_of : (v : ℕ) (xs : List Split) → ((j : ℕ) → j < length xs → v ≡ (get_or xs j no_split).variable → ⊥) → Whole v xs
-whole_of v [] h = tt
-whole_of v (p ∷ xs) h = (h 0 (omega arith), whole_of v xs (λ j l. h (suc j) (omega arith)))
+-- a variable that is not found is whole, and one that is found is taken apart by that split
+module _ (v : ℕ) where
+  none_here : (p : Split) (ps : List Split) (b : Bool) → eqb p.variable v ≡ b → cond b (Some p) (split_of v ps) ≡ None
+      → (split_of v ps ≡ None → Whole v ps) → Whole v (p ∷ ps)
+  none_here p ps true q z ih = none_some (sym z)
+  none_here p ps false q z ih = (λ y. eqb-false p.variable v q (sym y), ih z)
 
-pub splitting_of : (v r : ℕ) (xs : List Split) → r < length xs → ((j : ℕ) → j < r → v ≡ (get_or xs j no_split).variable → ⊥)
-    → (get_or xs r no_split).variable ≡ v → Splitting v xs (get_or xs r no_split)
-splitting_of v r [] h b e = absurd (omega arith)
-splitting_of v zero (p ∷ xs) h b e = now_split e
-splitting_of v (suc r) (p ∷ xs) h b e =
-    later_split (b 0 (omega arith)) (splitting_of v r xs (omega arith) (λ j l. b (suc j) (omega arith)) e)
+  pub found_none : (ps : List Split) → split_of v ps ≡ None → Whole v ps
+  found_none [] e = tt
+  found_none (p ∷ ps) e = none_here p ps (eqb p.variable v) refl e (found_none ps)
 
-pub found_whole : (v t : ℕ) (ps : List Split) (at : ℕ) → Found v t ps at → at ≡ t → t ≤ length ps → Whole v (take t ps)
-found_whole v t ps at fd e l =
-    let z = length-take-le t ps l in
-    whole_of v (take t ps) (λ j g. let w : j < t = rw z at g in rw (get_or-take t ps j no_split w) (fd.before j (omega arith)))
+  some_here : (q : Split) (ps : List Split) (p : Split) (b : Bool) → eqb q.variable v ≡ b → cond b (Some q) (split_of v ps) ≡ Some p
+      → (split_of v ps ≡ Some p → Splitting v ps p) → Splitting v (q ∷ ps) p
+  some_here q ps p true t z ih = subst (λ (x : Split). Splitting v (q ∷ ps) x) (some_inj z) (now_split (eqb-true q.variable v t))
+  some_here q ps p false t z ih = later_split (λ y. eqb-false q.variable v t (sym y)) (ih z)
+
+  pub found_some : (ps : List Split) (p : Split) → split_of v ps ≡ Some p → Splitting v ps p
+  found_some [] p e = none_some e
+  found_some (q ∷ ps) p e = some_here q ps p (eqb q.variable v) refl e (found_some ps p)

@@ -128,7 +128,7 @@ module _ {file heads : List ℕ} {g : ℕ} {r : Routine} {start : ℕ} {st : Sav
   pub line_entry_asks : (i : ℕ) → i < st.height → EntryAsks file st i
   line_entry_asks = entry_asks file (function_in file g) st a.right (weights a.walking)
 
-  pub line_own_asks : OwnAsks file r.bound (record { taken = st.taken; list = st.list })
+  pub line_own_asks : OwnAsks file r.bound st.splits
   line_own_asks = own_asks file (function_in file g) st a.right (weights a.walking)
       (le_trans (few_parameters a.walking g a.there) (omega arith)) r.bound
       (own_bound a.walking g a.there r.bound a.routine.bound)
@@ -136,7 +136,7 @@ module _ {file heads : List ℕ} {g : ℕ} {r : Routine} {start : ℕ} {st : Sav
 
   -- where the code has the forms of all entries
   module _ {own : Form} {stack : List Form} {height : ℕ} (all : height ≡ st.height) where
-    pub line_right_lem : OwnIs file r.bound (record { taken = st.taken; list = st.list }) own → FormsAre file st height stack
+    pub line_right_lem : OwnIs file r.bound st.splits own → FormsAre file st height stack
         → LineRight (program_in file) (function_in file g) (shape_in (function_in file g) st) own stack height
     line_right_lem o h =
         rw all (converted file (function_in file g) st a.right (weights a.walking)

@@ -38,8 +38,8 @@ pub record SavedRight (s : Program) (f : Function) (st : Saved) : Type 0 where
   pub under : AllUnder st.count (stack_in st)
   pub high : st.height ≤ 16
   pub long : length st.stack ≡ 16
-  pub few : st.taken ≤ 16
-  pub list : length st.list ≡ 16
+  pub few : st.splits.taken ≤ 16
+  pub list : length st.splits.list ≡ 16
 
 -- a form on the stack, which the own bound covers
 pub record Held (own x : Form) : Type 0 where

@@ -1,6 +1,7 @@
 -- What the code's walk over a function asks and says.
 use Rattle.std.specs.Prelude.{◌≡◌, List, false, ℕ, ◌<◌}
-use Rattle.std.specs.Prelude.{Some}
+use Rattle.std.specs.Prelude.{Some, Result, Ok, Err}
+use Rattle.rules.specs.declared.answers.Reason.{Reason}
 use Rattle.rules.specs.declared.records.Instruction.{Instruction}
 use Rattle.rules.specs.declared.records.Instruction.TheVariants.{Load, Build, Call, Branch, Return, Stop}
 use Rattle.rules.specs.Base.{refused, Check, byte_at}
@@ -13,8 +14,6 @@ use Rattle.rules.specs.Answers.{refusal_of}
 use Rattle.rules.specs.Established.{Typechecked}
 use Rattle.sizing.specs.declared.routines.Routine.{Routine}
 use Rattle.sizing.specs.declared.paths.Saved.{Saved}
-use Rattle.sizing.specs.declared.line.Straight.{Straight}
-use Rattle.sizing.specs.declared.line.Straight.TheVariants.{Ends, Refused}
 use Rattle.sizing.specs.Right.{shape_in, SavedRight}
 use Rattle.sizing.specs.Chart.{ReachedAt}
 use Rattle.sizing.specs.Left.{left_from}
@@ -44,16 +43,16 @@ pub record LineAsks (file heads : List ℕ) (g : ℕ) (r : Routine) (start : ℕ
   pub right : SavedRight (program_in file) (function_in file g) st
 
 -- what is left of the walk behind the line, where it passed
-abbrev pub line_left : List ℕ → ℕ → Straight → List (Arrow Shape) → Check
-line_left file g (Ends j) arrows = left_from (program_in file) g (function_in file g) j arrows
-line_left file g (Refused why) arrows = refused (refusal_of why)
+abbrev pub line_left : List ℕ → ℕ → Result ℕ Reason → List (Arrow Shape) → Check
+line_left file g (Ok j) arrows = left_from (program_in file) g (function_in file g) j arrows
+line_left file g (Err why) arrows = refused (refusal_of why)
 
-abbrev pub Further : ℕ → Straight → Type 0
-Further start (Ends j) = start < j
-Further start (Refused why) = Unit {0}
+abbrev pub Further : ℕ → Result ℕ Reason → Type 0
+Further start (Ok j) = start < j
+Further start (Err why) = Unit {0}
 
 -- for all arrows, of which the first to the start brings this state
-pub record LineSays (file : List ℕ) (g start : ℕ) (st : Saved) (r : Straight) : Type 0 where
+pub record LineSays (file : List ℕ) (g start : ℕ) (st : Saved) (r : Result ℕ Reason) : Type 0 where
   pub left : (arrows : List (Arrow Shape)) → first (arriving start arrows) ≡ Some (shape_in (function_in file g) st)
       → left_from (program_in file) g (function_in file g) start arrows ≡ line_left file g r arrows
   pub further : Further start r

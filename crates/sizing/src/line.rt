@@ -55,20 +55,8 @@ pub fn entry_form(file: &[u8], st: Saved, i: usize) -> Form
     requires { Verified file.now × EntryAsks file.now st i }
     ensures { EntryIs file.now st i result }
 {
-    let l = st.list;
-    let s = Splits {
-        taken: st.taken,
-        list: l,
-    };
-    let v = st.stack[i] as usize;
-    single(carry(file, unit(v), s))
-}
-
-// How the straight line ends: passed, with the number of the instruction behind it, or refused.
-#[derive(Clone, Copy)]
-pub enum Straight {
-    Ends(usize),
-    Refused(Reason),
+    let v = usize::from(st.stack[i]);
+    single(carry(file, unit(v), st.splits))
 }
 
 // An instruction of a function.
@@ -91,17 +79,12 @@ pub fn straight_line(
     f: Routine,
     start: usize,
     st: Saved,
-) -> Straight
+) -> Result<usize, Reason>
     requires { LineAsks file.now heads.now g f start st }
     ensures { LineSays file.now g start st result }
 {
     let bound = f.bound;
-    let list = st.list;
-    let s = Splits {
-        taken: st.taken,
-        list: list,
-    };
-    let own = own_form(file, bound, s);
+    let own = own_form(file, bound, st.splits);
     let mut stack = [no_form(); 20];
     let mut height: usize = 0;
     while height < st.height {
@@ -115,7 +98,7 @@ pub fn straight_line(
         let m = maker_of(file, heads, ins);
         if !m.makes {
             let Instruction::Load(a) = ins else {
-                return Straight::Ends(next);
+                return Ok(next);
             };
             let x = stack[wide(a) - 1];
             stack[height] = x;
@@ -128,10 +111,10 @@ pub fn straight_line(
         let arguments = [stack[at], stack[at + 1], stack[at + 2], stack[at + 3]];
         let x = into_bound(file, made, m.arity, arguments);
         if x.count == 0 {
-            return Straight::Refused(Reason::TooManyForms(place(g, j)));
+            return Err(Reason::TooManyForms(place(g, j)));
         }
         if !covered_by(own, x) {
-            return Straight::Refused(Reason::NotCovered(place(g, next)));
+            return Err(Reason::NotCovered(place(g, next)));
         }
         stack[at] = x;
         height = at + 1;

@@ -1,63 +1,35 @@
 // A path before its first build or call: a stack of variables, and the splits made so far.
-ghost use Rattle.std.specs.Prelude.{◌≡◌, [], ◌∷◌, ◌++◌, false, ◌+◌, ◌-◌, ◌≤◌, ◌<◌, length, take, get_or};
-ghost use Rattle.sizing.specs.States.{stack_in, SameSplits, SplitMore, Found, up_from};
+ghost use Rattle.std.specs.Prelude.{◌≡◌, [], ◌∷◌, ◌++◌, ◌+◌, ◌-◌, ◌≤◌, ◌<◌, length, take, get_or};
+ghost use Rattle.sizing.specs.States.{stack_in, splits_in, split_of, SameSplits, SplitMore, up_from};
 ghost use Rattle.sizing.specs.Steps.{BranchAsks, Branching};
 
-use crate::splits::Split;
+use crate::splits::{Split, Splits};
 
-// What arrives at an instruction before the first build or call.
+// What arrives at an instruction before the first build or call: the stack's variables, how many there are on the path, and its splits.
 #[derive(Clone, Copy)]
 pub struct Saved {
-    pub visited: bool,
     pub height: usize,
     pub count: usize,
     pub stack: [u8; 16],
-    pub taken: usize,
-    pub list: [Split; 16],
+    pub splits: Splits,
 }
 
-// What leaves an instruction: a state for the next one and one for the else target, where they are visited.
-// Where large, there would be more than 16 variables.
+// What leaves a branch: a state for the next instruction and one for the else target, where they are visited.
 #[derive(Clone, Copy)]
 pub struct Branched {
-    pub large: bool,
-    pub next: Saved,
-    pub other: Saved,
+    pub next: Option<Saved>,
+    pub other: Option<Saved>,
 }
 
-pub fn unvisited() -> Saved
-    ensures { result.visited ≡ false }
+// The split of variable v, where it is taken apart.
+pub fn find_split(st: &Saved, v: u8) -> Option<Split>
+    requires { (st.now.splits.taken ≤ 16) × (length st.now.splits.list ≡ 16) }
+    ensures { result ≡ split_of v (splits_in st.now) }
 {
-    Saved {
-        visited: false,
-        height: 0,
-        count: 0,
-        stack: [0u8; 16],
-        taken: 0,
-        list: [Split {
-            variable: 0,
-            constructor: 0,
-            first: 0,
-            parts: 0,
-        }; 16],
-    }
-}
-
-// The place of the split of variable v; the number of splits where it is whole.
-pub fn find_split(st: Saved, v: u8) -> usize
-    requires { st.taken ≤ 16 }
-    ensures { Found v st.taken st.list result }
-{
-    let n = st.taken;
-    let mut i: usize = 0;
-    while i < n {
-        let p = st.list[i];
-        if p.variable == v {
-            return i;
-        }
-        i += 1;
-    }
-    n
+    st.splits.list[..st.splits.taken]
+        .iter()
+        .find(|p| p.variable == v)
+        .copied()
 }
 
 // Slot k, from 0, on top.
@@ -65,10 +37,9 @@ pub fn load_variable(st: Saved, k: usize) -> Saved
     requires { (st.height < 16) × (k < st.height) × (length st.stack ≡ 16) }
     ensures { SameSplits st result × (result.height ≡ st.height + 1) × (stack_in result ≡ stack_in st ++ (get_or (stack_in st) k 0 ∷ [])) }
 {
-    let h = st.height;
     let mut r = st;
-    r.stack[h] = st.stack[k];
-    r.height = h + 1;
+    r.stack[st.height] = st.stack[k];
+    r.height = st.height + 1;
     r
 }
 
@@ -79,75 +50,58 @@ pub fn push_parts(st: Saved, first: u8, parts: u8) -> Saved
         × (stack_in result ≡ take (st.height - 1) st.stack ++ up_from first parts) }
 {
     let base = st.height - 1;
-    let n = parts as usize;
-    let mut v = first;
     let mut r = st;
-    let mut i: usize = 0;
-    while i < n {
-        r.stack[base + i] = v;
-        v += 1;
-        i += 1;
+    for i in 0..parts {
+        r.stack[base + usize::from(i)] = first + i;
     }
-    r.height = base + n;
+    r.height = base + usize::from(parts);
     r
 }
 
 // A split more.
 pub fn add_taken(st: Saved, p: Split) -> Saved
-    requires { (st.taken < 16) × (length st.list ≡ 16) × (st.count + p.parts ≤ 16) }
+    requires { (st.splits.taken < 16) × (length st.splits.list ≡ 16) × (st.count + p.parts ≤ 16) }
     ensures { SplitMore st p result }
 {
-    let t = st.taken;
-    let n = p.parts as usize;
     let mut r = st;
-    r.list[t] = p;
-    r.taken = t + 1;
-    r.count = st.count + n;
+    r.splits.list[st.splits.taken] = p;
+    r.splits.taken = st.splits.taken + 1;
+    r.count = st.count + usize::from(p.parts);
     r
 }
 
-// A branch that goes on with these two states.
-fn sides(next: Saved, other: Saved) -> Branched
-    ensures { result ≡ record { large = false; next = next; other = other } }
-{
-    Branched {
-        large: false,
-        next,
-        other,
-    }
-}
-
 // A branch on constructor c: both sides where the top is whole, and where its constructor is known the side that can be taken.
-pub fn branch_variable(st: Saved, c: u8, parts: u8) -> Branched
+// None where there would be more than 16 variables.
+pub fn branch_variable(st: Saved, c: u8, parts: u8) -> Option<Branched>
     requires { BranchAsks st c parts }
     ensures { Branching st c parts result }
 {
-    let none = unvisited();
-    let h = st.height;
-    let v = st.stack[h - 1];
-    let at = find_split(st, v);
-    if at < st.taken {
-        let p = st.list[at];
+    let v = st.stack[st.height - 1];
+    if let Some(p) = find_split(&st, v) {
         if p.constructor == c {
-            return sides(push_parts(st, p.first, parts), none);
+            return Some(Branched {
+                next: Some(push_parts(st, p.first, parts)),
+                other: None,
+            });
         }
-        return sides(none, st);
+        return Some(Branched {
+            next: None,
+            other: Some(st),
+        });
     }
-    let n = parts as usize;
-    if st.count + n > 16 {
-        return Branched {
-            large: true,
-            next: none,
-            other: none,
-        };
+    if st.count + usize::from(parts) > 16 {
+        return None;
     }
     let first = st.count as u8;
     let p = Split {
         variable: v,
         constructor: c,
-        first: first,
-        parts: parts,
+        first,
+        parts,
     };
     let more = add_taken(st, p);
-    sides(push_parts(more, first, parts), st)
+    Some(Branched {
+        next: Some(push_parts(more, first, parts)),
+        other: Some(st),
+    })
 }

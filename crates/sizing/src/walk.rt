@@ -1,30 +1,27 @@
 // The walk over a function's code in file order, and over all functions.
-ghost use Rattle.std.specs.Prelude.{if◌then◌else◌, ◌≡◌, List, ℕ, ◌≤◌, Err};
+ghost use Rattle.std.specs.Prelude.{◌≡◌, List, ℕ, ◌≤◌, None};
 ghost use Rattle.rules.specs.Answers.{told};
 ghost use Rattle.rules.specs.Records.{program_in, function_in};
 ghost use Rattle.rules.specs.Shapes.{sizes_of, sizes_right};
 ghost use Rattle.rules.specs.declared.records.Instruction.TheVariants as ins;
 ghost use Rattle.rules.specs.Established.{Typechecked, LaidOut};
-ghost use Rattle.sizing.specs.Moves.{StartIs, StayIs, MoveAsks, LineMoveAsks, StepAsks, StepSays, FunctionAsks};
+ghost use Rattle.sizing.specs.Moves.{StartIs, MoveAsks, LineMoveAsks, StepAsks, StepSays, FunctionAsks};
 
-use crate::line::{Straight, straight_line};
-use crate::paths::{Saved, branch_variable, load_variable, unvisited};
+use crate::line::straight_line;
+use crate::paths::{Saved, branch_variable, load_variable};
 use crate::routines::{Routine, routine_at};
-use crate::splits::Split;
+use crate::splits::{Split, Splits};
 use program::Layout;
-use readers::{constructor_declaration, instruction, instruction_offset, wide};
+use readers::{constructor_declaration, instruction, instruction_offset};
 use rules::answers::{Place, Reason};
 use rules::records::Instruction;
 
-// What leaves an instruction: a state for the slot of the next one and one for that of the else target, or for slot 0, which
-// is never read, where they are not visited; and the instruction to go on at.
+// What leaves an instruction, where it is visited: a state for the next one, and one for an else target, with its number; and the
+// instruction to go on at.
 #[derive(Clone, Copy)]
 pub struct Moved {
-    pub checked: Result<(), Reason>,
-    pub next: Saved,
-    pub near: usize,
-    pub other: Saved,
-    pub far: usize,
+    pub next: Option<Saved>,
+    pub other: Option<(usize, Saved)>,
     pub on: usize,
 }
 
@@ -34,117 +31,90 @@ fn start_state(arity: usize) -> Saved
     ensures { StartIs arity result }
 {
     Saved {
-        visited: true,
         height: arity,
         count: arity,
         stack: [0u8, 1, 2, 3, 4, 5, 6, 7, 8, 9, 10, 11, 12, 13, 14, 15],
-        taken: 0,
-        list: [Split {
-            variable: 0,
-            constructor: 0,
-            first: 0,
-            parts: 0,
-        }; 16],
+        splits: Splits {
+            taken: 0,
+            list: [Split {
+                variable: 0,
+                constructor: 0,
+                first: 0,
+                parts: 0,
+            }; 16],
+        },
     }
 }
 
 // Nothing leaves.
 fn stay(on: usize) -> Moved
-    ensures { StayIs on result }
+    ensures { result ≡ record { next = None; other = None; on = on } }
 {
     Moved {
-        checked: Ok(()),
-        next: unvisited(),
-        near: 0,
-        other: unvisited(),
-        far: 0,
-        on: on,
+        next: None,
+        other: None,
+        on,
     }
-}
-
-fn refuse(reason: Reason) -> Moved
-    ensures { result.checked ≡ Err reason }
-{
-    Moved {
-        checked: Err(reason),
-        next: unvisited(),
-        near: 0,
-        other: unvisited(),
-        far: 0,
-        on: 0,
-    }
-}
-
-// The slot for a state: 0 where it is not visited.
-fn slot_for(visited: bool, at: usize) -> usize
-    ensures { result ≡ (if visited then at else 0) }
-{
-    if visited {
-        return at;
-    }
-    0
 }
 
 // A branch on constructor c, else b, at instruction i.
-fn branch(file: &[u8], g: usize, i: usize, st: Saved, c: u8, b: u16) -> Moved
+fn branch(file: &[u8], g: usize, i: usize, st: Saved, c: u8, b: u16) -> Result<Moved, Reason>
     requires { (heads : List ℕ) × MoveAsks file.now heads g i st (ins.Branch c b) }
     ensures { StepSays file.now g i st result }
 {
-    let d = constructor_declaration(file, wide(c));
-    let r = branch_variable(st, c, d.arity);
-    if r.large {
-        return refuse(Reason::TooManyForms(Place {
+    let d = constructor_declaration(file, usize::from(c));
+    let Some(r) = branch_variable(st, c, d.arity) else {
+        return Err(Reason::TooManyForms(Place {
             function: g,
             instruction: i,
         }));
-    }
-    let next = r.next;
-    let other = r.other;
-    Moved {
-        checked: Ok(()),
-        next: next,
-        near: slot_for(next.visited, i + 1),
-        other: other,
-        far: slot_for(other.visited, b as usize),
+    };
+    Ok(Moved {
+        next: r.next,
+        other: r.other.map(|x| (usize::from(b), x)),
         on: i + 1,
+    })
+}
+
+// Instruction i, with what arrives there. The first build or call begins a straight line to the path's end.
+fn step(
+    file: &[u8],
+    heads: &[usize; 32],
+    g: usize,
+    f: Routine,
+    i: usize,
+    st: Saved,
+) -> Result<Moved, Reason>
+    requires { StepAsks file.now heads.now g f i st }
+    ensures { StepSays file.now g i st result }
+{
+    let ins = instruction(file, instruction_offset(f.base, i - 1));
+    match ins {
+        Instruction::Load(a) => Ok(Moved {
+            next: Some(load_variable(st, usize::from(a) - 1)),
+            other: None,
+            on: i + 1,
+        }),
+        Instruction::Build(_) | Instruction::Call(_) => line_move(file, heads, g, f, i, st),
+        Instruction::Branch(c, b) => branch(file, g, i, st, c, b),
+        Instruction::Return | Instruction::Stop => Ok(stay(i + 1)),
     }
 }
 
 // A first build or call, at instruction i.
-fn line_move(file: &[u8], heads: &[usize; 32], g: usize, f: Routine, i: usize, st: Saved) -> Moved
+fn line_move(
+    file: &[u8],
+    heads: &[usize; 32],
+    g: usize,
+    f: Routine,
+    i: usize,
+    st: Saved,
+) -> Result<Moved, Reason>
     requires { LineMoveAsks file.now heads.now g f i st }
     ensures { StepSays file.now g i st result }
 {
-    let line = straight_line(file, heads, g, f, i, st);
-    match line {
-        Straight::Ends(j) => stay(j),
-        Straight::Refused(reason) => refuse(reason),
-    }
-}
-
-// Instruction i, with what arrives there.
-fn step(file: &[u8], heads: &[usize; 32], g: usize, f: Routine, i: usize, st: Saved) -> Moved
-    requires { StepAsks file.now heads.now g f i st }
-    ensures { StepSays file.now g i st result }
-{
-    if !st.visited {
-        return stay(i + 1);
-    }
-    let ins = instruction(file, instruction_offset(f.base, i - 1));
-    match ins {
-        Instruction::Load(a) => Moved {
-            checked: Ok(()),
-            next: load_variable(st, wide(a) - 1),
-            near: i + 1,
-            other: unvisited(),
-            far: 0,
-            on: i + 1,
-        },
-        Instruction::Build(_) | Instruction::Call(_) => line_move(file, heads, g, f, i, st),
-        Instruction::Branch(c, b) => branch(file, g, i, st, c, b),
-        Instruction::Return => stay(i + 1),
-        Instruction::Stop => stay(i + 1),
-    }
+    let on = straight_line(file, heads, g, f, i, st)?;
+    Ok(stay(on))
 }
 
 // Function g: a slot for each instruction holds what arrives there.
@@ -153,23 +123,21 @@ fn function_sizes(file: &[u8], heads: &[usize; 32], g: usize) -> Result<(), Reas
     ensures { told result ≡ sizes_of (program_in file.now) g (function_in file.now g) }
 {
     let f = routine_at(file, heads[g]);
-    let mut saved = [unvisited(); 258];
-    saved[1] = start_state(f.arity);
-    let last = f.last;
-    let mut i: usize = 1;
-    while i <= last {
-        let st = saved[i];
-        let m = step(file, heads, g, f, i, st);
-        let checked = m.checked;
-        if let Err(reason) = checked {
-            return Err(reason);
+    let mut saved = [None; 258];
+    saved[1] = Some(start_state(f.arity));
+    let mut i = 1;
+    while i <= f.last {
+        let Some(st) = saved[i] else {
+            i += 1;
+            continue;
+        };
+        let m = step(file, heads, g, f, i, st)?;
+        if let Some((far, other)) = m.other {
+            saved[far] = Some(other);
         }
-        let near = m.near;
-        let next = m.next;
-        saved[near] = next;
-        let far = m.far;
-        let other = m.other;
-        saved[far] = other;
+        if let Some(next) = m.next {
+            saved[i + 1] = Some(next);
+        }
         i = m.on;
     }
     Ok(())

@@ -28,7 +28,7 @@ use Rattle.sizing.proofs.line.straight_line.Goals as goal
 
 -- the line as it stands where the loop begins again
 goes : {file heads : List ℕ} {g : ℕ} {f : Routine} {start : ℕ} {st : Saved} {own : Form} {stack₀ stack : List Form} {height₀ height j : ℕ}
-    → LineAsks file heads g f start st → OwnIs file f.bound (record { taken = st.taken; list = st.list }) own
+    → LineAsks file heads g f start st → OwnIs file f.bound st.splits own
     → (height₀ ≤ st.height) × FormsAre file st height₀ stack₀ → st.height ≤ height₀
     → Line file g start own stack₀ height₀ stack height j
     → LineGoes file g start (shape_in (function_in file g) st) own stack height j

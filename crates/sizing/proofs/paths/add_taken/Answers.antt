@@ -1,20 +1,18 @@
 -- The split stands behind those before it.
-use mathlib.Core.Path.{refl, ◌∙◌}
-use native.Mathlib.Omega.{arith}
-use lib.ListN.{length-set}
+use Rattle.std.proofs.Common.{ℕ, ◌+◌, refl, ap, arith, length-set, ◌∙◌}
 use Rattle.sizing.specs.States.{splits_in}
 use Rattle.sizing.proofs.ListLaws.{take_stored}
 use Rattle.sizing.proofs.paths.add_taken.Goals as goal
 
 pub returns : goal.returns
 returns c =
+    let s = c.args.st.splits in
     let l = c.requires.1 in
     record {
-      visited = refl;
-      count = refl;
+      count = ap (λ (k : ℕ). c.args.st.count + k) c.from.ensures;
       height = refl;
       stack = refl;
       taken = refl;
-      splits = take_stored c.args.st.list (splits_in c.args.st) c.args.st.taken c.args.p (omega arith) refl;
-      long = length-set c.args.st.list c.args.st.taken c.args.p ∙ l;
+      splits = take_stored s.list (splits_in c.args.st) s.taken c.args.p (omega arith) refl;
+      long = length-set s.list s.taken c.args.p ∙ l;
     }

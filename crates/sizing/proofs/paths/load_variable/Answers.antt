@@ -14,7 +14,7 @@ returns c =
     let l = c.requires.2 in
     let st = c.args.st in
     let x = get_or st.stack c.args.k 0 in (
-      record { visited = refl; count = refl; taken = refl; list = refl; long = length-set st.stack st.height x ∙ l },
+      record { count = refl; splits = refl; long = length-set st.stack st.height x ∙ l },
       refl,
       take_stored st.stack (stack_in st) st.height x (omega arith) refl
           ∙ ap (λ (v : ℕ). stack_in st ++ (v ∷ [])) (sym (get_or-take st.height st.stack c.args.k 0 c.requires.1)),

@@ -1,19 +1,18 @@
 -- The slots hold what arrives at each instruction, and the whole walk comes out as what is left of it.
-use Rattle.std.specs.Prelude.{Result, Ok, Err}
-use Rattle.rules.specs.declared.answers.Reason.{Reason}
-use mathlib.Core.Path.{◌≡◌, sym, refl}
-use native.Mathlib.Omega.{arith}
+use Rattle.std.proofs.Common.{◌≡◌, Option, Some, None, sym, refl, arith}
+use Rattle.std.proofs.lemmas.Result.{err_from_is_err_and}
 use Rattle.rules.specs.Container.{payload}
-use Rattle.rules.specs.Records.{head_offset}
+use Rattle.rules.specs.Records.{head_offset, function_in}
+use Rattle.sizing.specs.Moves.{sent}
 use Rattle.sizing.specs.Routines.{RoutineIs}
-use Rattle.sizing.proofs.SlotLaws.{routine_few, slots_start, slots_end, slots_low, slots_asks, slots_refused, slots_on}
-use Rattle.sizing.proofs.SlotLaws.{slots_near, slots_next}
-use Rattle.sizing.proofs.walk.function_sizes.Goals.{After-routine_at-f}
+use Rattle.sizing.proofs.SlotLaws.{routine_few, slots_start, slots_end, slots_low, slots_skip, slots_asks, slots_refused, slots_on}
+use Rattle.sizing.proofs.SlotLaws.{SlotsStand, slots_sent, slots_none_sent, slots_next, slots_past}
+use Rattle.sizing.proofs.walk.function_sizes.Goals.{After-routine_at-f, Joined-m, in-Some-other, in_default-other}
 use Rattle.sizing.proofs.walk.function_sizes.Goals as goal
 
-is_passed : (r : Result Unit Reason) → ((x : Reason) → r ≡ Err x → ⊥) → r ≡ Ok tt
-is_passed (Ok x) n = refl
-is_passed (Err x) n = absurd (n x refl)
+none_of : {A : Type 0} {o : Option A} → ((x : A) → o ≡ Some x → ⊥) → o ≡ None
+none_of {o = None} n = refl
+none_of {o = Some x} n = absurd (n x refl)
 
 ---- What is known at a place of the code
 routine : (c : After-routine_at-f) → let a =
@@ -22,9 +21,6 @@ routine : (c : After-routine_at-f) → let a =
 routine c =
     let p = c.requires in
     rw (p.walking.records.placed _ p.there) at c.routine_at-f.ensures
-
-pub offset_bounds-heads-g : goal.offset_bounds-heads-g
-offset_bounds-heads-g c = let p = c.requires in omega (arith, p.walking.records.few, p.there)
 
 pub bounds-heads-g : goal.bounds-heads-g
 bounds-heads-g c = let p = c.requires in omega (arith, p.walking.records.few, p.there)
@@ -40,68 +36,68 @@ start_state-requires c = routine_few c.requires (routine (goal.at.start_state-re
 
 pub loop-i-init : goal.loop-i-init
 loop-i-init c =
-    slots_start c.requires (routine (goal.at.loop-i-init c).After-routine_at-f) c.unvisited-saved.result c.start_state.result
-    c.unvisited-saved.ensures
-    c.start_state.ensures
-
-pub offset_bounds-saved-i : goal.offset_bounds-saved-i
-offset_bounds-saved-i c =
-    omega (arith, slots_low c.requires (routine (goal.at.offset_bounds-saved-i c).After-routine_at-f) c.loop-i.invariant c.loop-i-test.true)
+    slots_start c.requires (routine (goal.at.loop-i-init c).After-routine_at-f) c.start_state.result c.start_state.ensures
 
 pub bounds-saved-i : goal.bounds-saved-i
 bounds-saved-i c =
     omega (arith, slots_low c.requires (routine (goal.at.bounds-saved-i c).After-routine_at-f) c.loop-i.invariant c.loop-i-test.true)
 
-pub step-m-requires : goal.step-m-requires
-step-m-requires c =
-    slots_asks c.requires (routine (goal.at.step-m-requires c).After-routine_at-f) c.loop-i.invariant c.loop-i-test.true
+pub loop-i-smaller-in_default : goal.loop-i-smaller-in_default
+loop-i-smaller-in_default c = omega (arith, c.loop-i-test.true)
 
-pub returns-in-Err : goal.returns-in-Err
-returns-in-Err c =
-    sym (slots_refused c.requires (routine (goal.at.returns-in-Err c).After-routine_at-f) c.loop-i.invariant c.loop-i-test.true
-    c.step-m.ensures
-    c.in-Err.reason c.in-Err.is)
+pub loop-i-preserved-in_default : goal.loop-i-preserved-in_default
+loop-i-preserved-in_default c =
+    slots_skip c.requires (routine (goal.at.loop-i-preserved-in_default c).After-routine_at-f) c.loop-i.invariant c.loop-i-test.true
+    (none_of c.in_default.not-Some)
 
-pub offset_bounds-saved-near : goal.offset_bounds-saved-near
-offset_bounds-saved-near c =
-    omega (
-      arith,
-      (slots_near c.requires (routine
-          (goal.at.offset_bounds-saved-near c).After-routine_at-f) c.loop-i.invariant c.loop-i-test.true c.step-m.ensures
-          (is_passed _ c.in_default.not-Err)).0,
-    )
+pub step-requires : goal.step-requires
+step-requires c =
+    slots_asks c.requires (routine (goal.at.step-requires c).After-routine_at-f) c.loop-i.invariant c.loop-i-test.true c.in-Some.is
 
-pub bounds-saved-near : goal.bounds-saved-near
-bounds-saved-near c =
-    (slots_near c.requires (routine (goal.at.bounds-saved-near c).After-routine_at-f) c.loop-i.invariant c.loop-i-test.true c.step-m.ensures
-    (is_passed _ c.in_default.not-Err)).0
+pub returns-in_err-m : goal.returns-in_err-m
+returns-in_err-m c =
+    let p = err_from_is_err_and c.from_residual.result c.from_residual.ensures.1 in
+    rw (p.1, p.2)
+    (sym (slots_refused c.requires (routine (goal.at.returns-in_err-m c).After-routine_at-f) c.loop-i.invariant c.loop-i-test.true
+    c.in-Some.is c.in_err-m.ensures))
 
-pub offset_bounds-saved-far : goal.offset_bounds-saved-far
-offset_bounds-saved-far c =
-    omega (
-      arith,
-      (slots_near c.requires (routine
-          (goal.at.offset_bounds-saved-far c).After-routine_at-f) c.loop-i.invariant c.loop-i-test.true c.step-m.ensures (is_passed _ c.in_default.not-Err)).1,
-    )
+-- behind the store for the else target
+stored : (c : Joined-m) → RoutineIs (payload c.args.file.now) (head_offset (payload c.args.file.now) c.args.g) c.routine_at-f.result
+    → SlotsStand c.args.file.now c.args.g c.match-m.saved
+    (sent (function_in c.args.file.now c.args.g) c.in_ok-m.m.other c.loop-i.invariant.arrows) c.loop-i.i
+stored c r =
+    elim c.match-m.branch [
+      | in-Some-other w ↦
+          rw w.saved-is (slots_sent c.requires r c.loop-i.invariant c.loop-i-test.true c.in-Some.is c.in_ok-m.ensures
+          w.in-Some-other.far w.in-Some-other.other w.in-Some-other.is).1
+      | in_default-other w ↦
+          rw w.saved-is (slots_none_sent c.requires r c.loop-i.invariant c.loop-i-test.true c.in-Some.is c.in_ok-m.ensures
+          (none_of w.in_default-other.not-Some))
+    ]
 
-pub bounds-saved-far : goal.bounds-saved-far
-bounds-saved-far c =
-    (slots_near c.requires (routine (goal.at.bounds-saved-far c).After-routine_at-f) c.loop-i.invariant c.loop-i-test.true c.step-m.ensures
-    (is_passed _ c.in_default.not-Err)).1
+pub loop-i-smaller-in-Some-next : goal.loop-i-smaller-in-Some-next
+loop-i-smaller-in-Some-next c =
+    let t = c.loop-i-test.true in
+    let r = routine (goal.at.loop-i-smaller-in-Some-next c).After-routine_at-f in
+    omega (arith, slots_on c.requires r c.loop-i.invariant c.loop-i-test.true c.in-Some.is c.in_ok-m.ensures)
+
+pub loop-i-preserved-in-Some-next : goal.loop-i-preserved-in-Some-next
+loop-i-preserved-in-Some-next c =
+    let r = routine (goal.at.loop-i-preserved-in-Some-next c).After-routine_at-f in
+    (slots_next c.requires r c.loop-i.invariant c.loop-i-test.true c.in-Some.is c.in_ok-m.ensures
+    (stored (goal.at.loop-i-preserved-in-Some-next c).Joined-m r) c.in-Some-next.next c.in-Some-next.is).1
 
 pub loop-i-smaller : goal.loop-i-smaller
 loop-i-smaller c =
     let t = c.loop-i-test.true in
-    omega (
-      arith,
-      slots_on c.requires (routine
-          (goal.at.loop-i-smaller c).After-routine_at-f) c.loop-i.invariant c.loop-i-test.true c.step-m.ensures (is_passed _ c.in_default.not-Err),
-    )
+    let r = routine (goal.at.loop-i-smaller c).After-routine_at-f in
+    omega (arith, slots_on c.requires r c.loop-i.invariant c.loop-i-test.true c.in-Some.is c.in_ok-m.ensures)
 
 pub loop-i-preserved : goal.loop-i-preserved
 loop-i-preserved c =
-    slots_next c.requires (routine (goal.at.loop-i-preserved c).After-routine_at-f) c.loop-i.invariant c.loop-i-test.true c.step-m.ensures
-    (is_passed _ c.in_default.not-Err)
+    let r = routine (goal.at.loop-i-preserved c).After-routine_at-f in
+    slots_past c.requires r c.loop-i.invariant c.loop-i-test.true c.in-Some.is c.in_ok-m.ensures
+    (stored (goal.at.loop-i-preserved c).Joined-m r) (none_of c.in_default-next.not-Some)
 
 pub returns : goal.returns
 returns c =
