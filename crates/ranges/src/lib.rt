@@ -2,7 +2,7 @@
 #![tactic(auto)]
 
 ghost use Rattle.std.specs.Prelude.{◌≡◌, leb};
-ghost use Rattle.rules.specs.Base.{within, all};
+ghost use Rattle.rules.specs.Base.{all};
 ghost use Rattle.rules.specs.Records.{past_zero, header_right, declaration_right, constructor_right, head_right, alternative_right};
 ghost use Rattle.rules.specs.Records.{operation, is_some};
 
@@ -28,48 +28,39 @@ fn all_small(four: [u8; 4]) -> bool
     four.iter().all(|c| *c <= 15)
 }
 
-fn between(lo: u16, hi: u16, x: u16) -> bool
-    ensures { result ≡ within lo hi x }
-{
-    (lo <= x) & (x <= hi)
-}
-
 // For the crates above, as are the next four: each is one record's test of number 4.
 #[tactic(auto, unfolding(rules::specs::Records::header_right))]
 pub fn header_right(h: Header) -> bool
     ensures { result ≡ header_right h }
 {
-    (h.edition == 1)
-        & between(1, 32, u16::from(h.types))
-        & between(1, 64, u16::from(h.constructors))
-        & between(1, 32, u16::from(h.functions))
+    h.edition == 1
+        && (1..=32).contains(&h.types)
+        && (1..=64).contains(&h.constructors)
+        && (1..=32).contains(&h.functions)
 }
 
 #[tactic(auto, unfolding(rules::specs::Records::declaration_right))]
 fn declaration_right(d: Declaration) -> bool
     ensures { result ≡ declaration_right d }
 {
-    let types = d.types;
-    past_zero(d.arity, types)
+    past_zero(d.arity, d.types)
 }
 
 #[tactic(auto, unfolding(rules::specs::Records::constructor_right))]
 pub fn constructor_right(c: ConstructorRecord) -> bool
     ensures { result ≡ constructor_right c }
 {
-    let d = c.declaration;
-    declaration_right(d) & (c.reserved == 0)
+    declaration_right(c.declaration) && c.reserved == 0
 }
 
 #[tactic(auto, unfolding(rules::specs::Records::head_right))]
 pub fn head_right(h: HeadRecord) -> bool
     ensures { result ≡ head_right h }
 {
-    let d = h.declaration;
-    declaration_right(d)
-        & between(1, 4, u16::from(h.alternatives))
-        & (h.reserved == 0)
-        & between(1, 256, h.instructions)
+    declaration_right(h.declaration)
+        && (1..=4).contains(&h.alternatives)
+        && h.reserved == 0
+        && (1..=256).contains(&h.instructions)
 }
 
 // Of a function with n arguments.
@@ -77,8 +68,7 @@ pub fn head_right(h: HeadRecord) -> bool
 pub fn alternative_right(n: u8, r: AlternativeRecord) -> bool
     ensures { result ≡ alternative_right n r }
 {
-    let four = r.coefficients;
-    past_zero(n, four) & all_small(four)
+    past_zero(n, r.coefficients) && all_small(r.coefficients)
 }
 
 pub fn instruction_right(r: InstructionRecord) -> bool
