@@ -2,7 +2,7 @@
 use Prim.Native.Nat.{ℕ, suc, ◌+◌, ◌-◌, ◌≤◌, ◌<◌}
 use mathlib.Core.Path.{◌≡◌, refl, sym, ap, ap₂, ◌∙◌, subst}
 use mathlib.Core.List.{List, ◌∷◌, ◌++◌}
-use Rattle.std.specs.Prelude.{None, Some}
+use Rattle.std.specs.Prelude.{None, Some, Result}
 use mathlib.Core.Bool.{false, true}
 use native.Mathlib.Omega.{arith}
 use native.Mathlib.Nat.{add-zero}
@@ -29,11 +29,12 @@ use Rattle.fetch.specs.Arities.{place}
 use Rattle.fetch.specs.Places.{StandsAt, Behind}
 use Rattle.fetch.proofs.PlaceLaws.{behind_stands}
 use Rattle.steps.specs.Stands.{waiting_on, top_on, state_in, Standing, LeadsTo}
-use Rattle.steps.specs.Steps.{moved, counted, top_reference, Branches, branch_passes, branch_constant, branch_full, branch_takes}
+use Rattle.steps.specs.Steps.{moved, counted, top_reference, Branches, branch_passes, branch_constant, branch_full, branch_takes, Comes}
 use Rattle.steps.specs.declared.state.Registers.{Registers}
+use Rattle.steps.specs.declared.state.Rest.{Rest}
 use Rattle.steps.proofs.ContinueLaws.{heights_on, step_is, not_ended, branched, exec_branch}
 use Rattle.steps.proofs.StandLaws.{waiting_length, lives, put_state, top_heights, current_next}
-use Rattle.steps.proofs.StepLaws.{took, refuses_stack, Comes, comes_on, comes_short, moved_laid, next_stands}
+use Rattle.steps.proofs.StepLaws.{took, refuses_stack, same_place, moved_laid, next_stands}
 
 module _ (file : List ℕ) (m : Limits) (cells stack : List ℕ) (r : Registers) (i : ℕ) (ws : List Frame)
     (ok : Standing file m cells stack r i ws) (c b : ℕ) (cur : current (program_in file) (place r.function i) ≡ Some (Branch c b)) where
@@ -181,26 +182,20 @@ module _ (file : List ℕ) (m : Limits) (cells stack : List ℕ) (r : Registers)
         ≡ arity (program_in file) c
     cell_has e = cell_arity cells k (arity s) e ∙ ap (arity s) same
 
-  pub branch_comes : (budget : ℕ) (fits : r.left ≤ budget) → 0 < r.left → r.why ≡ 0 → (at : ℕ) → Behind r.at 1 at → at ≤ 40000
-      → ((label_in cells (top_reference stack r) ≡ c → ⊥) → 0 < b) → (n : ℕ) → n ≡ arity (program_in file) c
-      → {stack' : List ℕ} {t : Registers} → Branches m cells stack r at c b n stack' t
-      → Comes file m budget cells stack r i ws fits ok cells stack' t
-  branch_comes budget fits left going at behind near low n e {stack'} {t} x =
-      from_arity (subst (λ (z : ℕ). Branches m cells stack r at c b z stack' t) e x)
-    where
-      from_arity : {stack' : List ℕ} {t : Registers} → Branches m cells stack r at c b (arity (program_in file) c) stack' t
-          → Comes file m budget cells stack r i ws fits ok cells stack' t
-      from_arity (branch_passes {at = to} other there close) =
-          comes_on file m budget cells stack r i ws fits ok cells stack (moved r to r.top) b going
-          (passed other budget fits left (low other) to there close)
-      from_arity (branch_constant same one) =
-          comes_on file m budget cells stack r i ws fits ok cells stack (moved r at (r.top - 1)) (suc i) going
-          (constant_goes same one budget fits left at behind near)
-      from_arity (branch_full same one f) =
-          comes_short file m budget cells stack r i ws fits ok 16 (omega arith) (omega arith)
-          (refuses_stack file m budget cells stack r i ws fits ok left next ends steps
-          (omega (arith, waiting_length stack ws r.base, ok.laid.depth, ok.laid.deep))
-          (omega (arith, heights same (arity s c) (cell_has same one))))
-      from_arity (branch_takes {stack' = put-stack} same one f p) =
-          comes_on file m budget cells stack r i ws fits ok cells put-stack (moved r at (r.top - 1 + arity s c)) (suc i) going
-          (goes same (arity s c) (cell_has same one) budget fits left f put-stack p at behind near)
+  pub branch_comes : (budget : ℕ) (fits : r.left ≤ budget) → 0 < r.left → (at : ℕ) → Behind r.at 1 at → at ≤ 40000
+      → ((label_in cells (top_reference stack r) ≡ c → ⊥) → 0 < b) → (n : ℕ)
+      → (label_in cells (top_reference stack r) ≡ c → is_constant (top_reference stack r) ≡ false → n ≡ arity (program_in file) c)
+      → {stack' : List ℕ} {t : Result Registers Rest} → Branches m cells stack r at c b n stack' t
+      → Comes file m budget cells stack r i ws cells stack' t
+  branch_comes budget fits left at behind near low n is (branch_passes other there close) =
+      (b, passed other budget fits left (low other) _ there close)
+  branch_comes budget fits left at behind near low n is (branch_constant same one) =
+      (suc i, constant_goes same one budget fits left at behind near)
+  branch_comes budget fits left at behind near low n is (branch_full same one f) = (
+    same_place file m budget cells stack r i ws fits ok,
+    refuses_stack file m budget cells stack r i ws fits ok left next ends steps
+        (omega (arith, waiting_length stack ws r.base, ok.laid.depth, ok.laid.deep))
+        (omega (arith, heights same n (cell_has same one ∙ sym (is same one)))),
+  )
+  branch_comes budget fits left at behind near low n is (branch_takes same one f p) =
+      (suc i, goes same n (cell_has same one ∙ sym (is same one)) budget fits left f _ p at behind near)

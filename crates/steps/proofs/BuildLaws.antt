@@ -2,7 +2,7 @@
 use Prim.Native.Nat.{ℕ, suc, ◌+◌, ◌-◌, ◌≤◌, ◌<◌}
 use mathlib.Core.Path.{◌≡◌, refl, sym, ap, ap₂, ◌∙◌, subst}
 use mathlib.Core.List.{List, [], ◌∷◌, ◌++◌}
-use Rattle.std.specs.Prelude.{None, Some}
+use Rattle.std.specs.Prelude.{None, Some, Result}
 use native.Mathlib.Omega.{arith}
 use native.Mathlib.Numerals.{add-one}
 use lib.ListN.{length, set, length-append}
@@ -26,11 +26,12 @@ use Rattle.rules.specs.Prefix.{arity}
 use Rattle.fetch.specs.Arities.{place, NumbersInRange}
 use Rattle.fetch.specs.Places.{Behind}
 use Rattle.steps.specs.Stands.{waiting_on, top_on, state_in, Laid, Standing, LeadsTo}
-use Rattle.steps.specs.Steps.{moved, moved_over, counted, Builds, build_full, build_constant, build_short, build_goes}
+use Rattle.steps.specs.Steps.{moved, moved_over, counted, Builds, build_full, build_constant, build_short, build_goes, Comes}
 use Rattle.steps.specs.declared.state.Registers.{Registers}
+use Rattle.steps.specs.declared.state.Rest.{Rest}
 use Rattle.steps.proofs.ContinueLaws.{heights_on, step_is, not_ended, exec_build}
 use Rattle.steps.proofs.StandLaws.{waiting_heights, waiting_length, lives, put_state, below_or_last}
-use Rattle.steps.proofs.StepLaws.{took, refuses_stack, refuses_cells, Comes, comes_on, comes_short, moved_laid, next_stands}
+use Rattle.steps.proofs.StepLaws.{took, refuses_stack, refuses_cells, same_place, moved_laid, next_stands}
 
 module _ (file : List ℕ) (m : Limits) (cells stack : List ℕ) (r : Registers) (i : ℕ) (ws : List Frame)
     (ok : Standing file m cells stack r i ws) (c : ℕ) (cur : current (program_in file) (place r.function i) ≡ Some (Build c)) where
@@ -200,25 +201,24 @@ module _ (file : List ℕ) (m : Limits) (cells stack : List ℕ) (r : Registers)
           p.0 (sym p.1))
           (laid at behind near) (omega arith)
 
-  pub build_comes : NumbersInRange (program_in file) → (budget : ℕ) (fits : r.left ≤ budget) → 0 < r.left → r.why ≡ 0
-      → m.stack ≤ length stack → (at : ℕ) → Behind r.at 1 at → at ≤ 40000 → (k : ℕ) → k ≡ arity (program_in file) c
-      → {cells' stack' : List ℕ} {t : Registers} → Builds m cells stack r at c k cells' stack' t
-      → Comes file m budget cells stack r i ws fits ok cells' stack' t
-  build_comes range budget fits left going long at behind near k e {cells'} {stack'} {t} x =
+  pub build_comes : NumbersInRange (program_in file) → (budget : ℕ) (fits : r.left ≤ budget) → 0 < r.left → m.stack ≤ length stack
+      → (at : ℕ) → Behind r.at 1 at → at ≤ 40000 → (k : ℕ) → k ≡ arity (program_in file) c
+      → {cells' stack' : List ℕ} {t : Result Registers Rest} → Builds m cells stack r at c k cells' stack' t
+      → Comes file m budget cells stack r i ws cells' stack' t
+  build_comes range budget fits left long at behind near k e {cells'} {stack'} {t} x =
       from_arity (subst (λ (z : ℕ). Builds m cells stack r at c z cells' stack' t) e x)
     where
-      from_arity : {cells' stack' : List ℕ} {t : Registers} → Builds m cells stack r at c (arity (program_in file) c) cells' stack' t
-          → Comes file m budget cells stack r i ws fits ok cells' stack' t
-      from_arity (build_full f) =
-          comes_short file m budget cells stack r i ws fits ok 16 (omega arith) (omega arith)
-          (refuses_stack file m budget cells stack r i ws fits ok left next ends steps tall (omega (arith, heights)))
-      from_arity (build_constant f z) =
-          comes_on file m budget cells stack r i ws fits ok _ _ (moved r at (r.top - n + 1)) (suc i) going
-          (constant_goes z f budget fits left (omega arith) at behind near)
-      from_arity (build_short f z g) =
-          comes_short file m budget cells stack r i ws fits ok 15 (omega arith) (omega arith)
-          (refuses_cells file m budget cells stack r i ws fits ok left next ends steps tall (omega (arith, heights))
-          (omega (arith, large z)))
-      from_arity (build_goes f z g p) =
-          comes_on file m budget cells stack r i ws fits ok _ _ (moved_over r at (r.top - n + 1)) (suc i) going
-          (cell_goes z range _ p f g budget fits left (omega arith) at behind near)
+      from_arity : {cells' stack' : List ℕ} {t : Result Registers Rest}
+          → Builds m cells stack r at c (arity (program_in file) c) cells' stack' t
+          → Comes file m budget cells stack r i ws cells' stack' t
+      from_arity (build_full f) = (
+        same_place file m budget cells stack r i ws fits ok,
+        refuses_stack file m budget cells stack r i ws fits ok left next ends steps tall (omega (arith, heights)),
+      )
+      from_arity (build_constant f z) = (suc i, constant_goes z f budget fits left (omega arith) at behind near)
+      from_arity (build_short f z g) = (
+        same_place file m budget cells stack r i ws fits ok,
+        refuses_cells file m budget cells stack r i ws fits ok left next ends steps tall (omega (arith, heights))
+            (omega (arith, large z)),
+      )
+      from_arity (build_goes f z g p) = (suc i, cell_goes z range _ p f g budget fits left (omega arith) at behind near)

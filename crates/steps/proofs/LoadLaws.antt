@@ -2,7 +2,7 @@
 use Prim.Native.Nat.{ℕ, suc, ◌+◌, ◌-◌, ◌≤◌, ◌<◌}
 use mathlib.Core.Path.{◌≡◌, refl, sym, ap, ap₂, ◌∙◌}
 use mathlib.Core.List.{List, [], ◌∷◌}
-use Rattle.std.specs.Prelude.{None, Some}
+use Rattle.std.specs.Prelude.{None, Some, Result}
 use native.Mathlib.Omega.{arith}
 use lib.ListN.{length, get_or, set, length-append}
 use Rattle.rules.specs.Heap.{HeapFrame, HeapState, heap_state, heap_onward, execute_on, heap_step}
@@ -20,11 +20,12 @@ use Rattle.store.proofs.RefLaws.{length_refs, refs_slot, put_one}
 use Rattle.fetch.specs.Arities.{place}
 use Rattle.fetch.specs.Places.{Behind}
 use Rattle.steps.specs.Stands.{waiting_on, top_on, state_in, Standing, LeadsTo}
-use Rattle.steps.specs.Steps.{moved, counted, Loads, load_full, load_goes}
+use Rattle.steps.specs.Steps.{moved, counted, Loads, load_full, load_goes, Comes}
 use Rattle.steps.specs.declared.state.Registers.{Registers}
+use Rattle.steps.specs.declared.state.Rest.{Rest}
 use Rattle.steps.proofs.ContinueLaws.{heights_on, step_is, not_ended}
 use Rattle.steps.proofs.StandLaws.{waiting_heights, waiting_length, lives, put_state}
-use Rattle.steps.proofs.StepLaws.{took, refuses_stack, Comes, comes_on, comes_short, moved_laid, next_stands}
+use Rattle.steps.proofs.StepLaws.{took, refuses_stack, same_place, moved_laid, next_stands}
 
 module _ (file : List ℕ) (m : Limits) (cells stack : List ℕ) (r : Registers) (i : ℕ) (ws : List Frame)
     (ok : Standing file m cells stack r i ws) (a : ℕ) (cur : current (program_in file) (place r.function i) ≡ Some (Load a)) where
@@ -96,13 +97,13 @@ module _ (file : List ℕ) (m : Limits) (cells stack : List ℕ) (r : Registers)
       (moved_laid file m cells r i ws ok.laid at (suc i) (r.top + 1) (next_stands file r.function i r.at at ok.laid.at behind)
       near (omega (arith, ok.laid.bottom)) (omega arith)) (omega arith)
 
-  pub load_comes : (budget : ℕ) (fits : r.left ≤ budget) → 0 < r.left → r.why ≡ 0 → m.stack ≤ length stack → (at : ℕ)
-      → Behind r.at 1 at → at ≤ 40000 → {stack' : List ℕ} {t : Registers} → Loads m stack r at a stack' t
-      → Comes file m budget cells stack r i ws fits ok cells stack' t
-  load_comes budget fits left going long at behind near (load_full f) =
-      comes_short file m budget cells stack r i ws fits ok 16 (omega arith) (omega arith)
-      (refuses_stack file m budget cells stack r i ws fits ok left next ends steps
-      (omega (arith, waiting_length stack ws r.base, ok.laid.depth, ok.laid.deep)) (omega (arith, heights)))
-  load_comes budget fits left going long at behind near (load_goes f) =
-      comes_on file m budget cells stack r i ws fits ok cells _ (moved r at (r.top + 1)) (suc i) going
-      (goes budget fits left f (omega arith) at behind near)
+  pub load_comes : (budget : ℕ) (fits : r.left ≤ budget) → 0 < r.left → m.stack ≤ length stack → (at : ℕ)
+      → Behind r.at 1 at → at ≤ 40000 → {stack' : List ℕ} {t : Result Registers Rest} → Loads m stack r at a stack' t
+      → Comes file m budget cells stack r i ws cells stack' t
+  load_comes budget fits left long at behind near (load_full f) = (
+    same_place file m budget cells stack r i ws fits ok,
+    refuses_stack file m budget cells stack r i ws fits ok left next ends steps
+        (omega (arith, waiting_length stack ws r.base, ok.laid.depth, ok.laid.deep)) (omega (arith, heights)),
+  )
+  load_comes budget fits left long at behind near (load_goes f) =
+      (suc i, goes budget fits left f (omega arith) at behind near)

@@ -2,7 +2,7 @@
 use Prim.Native.Nat.{ℕ, ◌+◌, ◌/◌, ◌%◌, ◌≤◌, ◌<◌, ◌-◌}
 use mathlib.Core.Path.{◌≡◌, refl, ap, ◌∙◌}
 use mathlib.Core.List.{List, map}
-use Rattle.std.specs.Prelude.{Some}
+use Rattle.std.specs.Prelude.{Some, Result, Err, IfOk}
 use mathlib.Core.Bool.{true, false}
 use native.Mathlib.Omega.{arith}
 use lib.ListN.{length, set}
@@ -27,12 +27,14 @@ use Rattle.fetch.specs.Words.{WordThere}
 use Rattle.fetch.proofs.IndexLaws.{in_range, constructor_read}
 use Rattle.fetch.proofs.InstructionLaws.{instruction_there, word_load, word_build, word_call, word_branch, word_return, word_stop}
 use Rattle.steps.specs.Stands.{top_on, waiting_on, state_in, Standing, Spared}
-use Rattle.steps.specs.Steps.{resting_at, resting, top_reference, Loads, load_full, load_goes, Builds, build_full, build_constant}
-use Rattle.steps.specs.Steps.{build_short, build_goes, branch_constant, Branches, branch_passes, branch_full, branch_takes, Stepped}
+use Rattle.steps.specs.Steps.{top_reference, Loads, load_full, load_goes, Builds, build_full, build_constant, build_short, build_goes}
+use Rattle.steps.specs.Steps.{branch_constant, Branches, branch_passes, branch_full, branch_takes, Rests, Stepped}
 use Rattle.steps.specs.Pauses.{Ready}
 use Rattle.steps.specs.declared.state.Registers.{Registers}
+use Rattle.steps.specs.declared.state.Rest.{Rest}
+use Rattle.steps.specs.declared.state.Rest.TheVariants.{Calls, Returns, Stops}
 use Rattle.steps.proofs.StandLaws.{sound_current, current_first}
-use Rattle.steps.proofs.StepLaws.{Comes, halted, rests_at}
+use Rattle.steps.proofs.StepLaws.{same_place}
 use Rattle.steps.proofs.LoadLaws.{load_slot, load_comes}
 use Rattle.steps.proofs.BuildLaws.{build_known, build_deep, build_comes}
 use Rattle.steps.proofs.BranchLaws.{branch_deep, branch_old, branch_known, branch_target, branch_comes}
@@ -99,35 +101,28 @@ module _ (file : List ℕ) (m : Limits) (cells stack : List ℕ) (r : Registers)
   abbrev a : ℕ
   a = w / 256 % 256
 
-  -- what follows from all standings is a step
-  stepped : (cells' stack' : List ℕ) (t : Registers) → Spared m cells stack cells' stack' → t.left ≡ r.left
-      → ((budget j : ℕ) (vs : List Frame) (fits : r.left ≤ budget) (on : Standing file m cells stack r j vs)
-      → Comes file m budget cells stack r j vs fits on cells' stack' t)
-      → Stepped file m cells stack r cells' stack' t
-  stepped cells' stack' t spared same comes = record {
-    spared = spared;
-    left = same;
-    goes = λ e budget j vs fits on. (comes budget j vs fits on).0 e;
-    rests = λ n budget j vs fits on. (comes budget j vs fits on).1 n;
-  }
-
   ---- Load
 
   pub load_ready : w % 256 ≡ 1 → (0 < w / 256 % 256) × (r.base + w / 256 % 256 ≤ r.top)
   load_ready e = load_slot file m cells stack r i ws ok a (at_load file ready.parsed m cells stack r i ws ok word e)
 
-  pub load_stepped : w % 256 ≡ 1 → (next : ℕ) → Behind r.at 1 next → next ≤ 40000 → {stack' : List ℕ} {t : Registers}
+  pub load_stepped : w % 256 ≡ 1 → (next : ℕ) → Behind r.at 1 next → next ≤ 40000 → {stack' : List ℕ} {t : Result Registers Rest}
       → Loads m stack r next (w / 256 % 256) stack' t → Stepped file m cells stack r cells stack' t
-  load_stepped e next behind near {stack'} {t} x =
-      stepped cells stack' t (record { of_cells = cells_kept_refl m.cells cells; of_stack = kept x }) (same x)
-      (λ budget j vs fits on. load_comes file m cells stack r j vs on a (at_load file ready.parsed m cells stack r j vs on word e)
-      budget fits left ready.going ready.lent.stack_room next behind near x)
+  load_stepped e next behind near x = record {
+    spared = record { of_cells = cells_kept_refl m.cells cells; of_stack = kept x };
+    left = same x;
+    comes = λ budget j vs fits on.
+        load_comes file m cells stack r j vs on a (at_load file ready.parsed m cells stack r j vs on word e)
+        budget fits left ready.lent.stack_room next behind near x;
+  }
     where
-      same : {stack' : List ℕ} {t : Registers} → Loads m stack r next (w / 256 % 256) stack' t → t.left ≡ r.left
-      same (load_full f) = refl
+      same : {stack' : List ℕ} {t : Result Registers Rest} → Loads m stack r next (w / 256 % 256) stack' t
+          → IfOk t (λ goes. goes.left ≡ r.left)
+      same (load_full f) = tt
       same (load_goes f) = refl
 
-      kept : {stack' : List ℕ} {t : Registers} → Loads m stack r next (w / 256 % 256) stack' t → KeptFrom m.stack stack stack'
+      kept : {stack' : List ℕ} {t : Result Registers Rest} → Loads m stack r next (w / 256 % 256) stack' t
+          → KeptFrom m.stack stack stack'
       kept (load_full f) = kept_refl m.stack stack
       kept (load_goes f) = put_kept r.top _ stack _ (put_one stack r.top _ (omega (arith, ready.lent.stack_room))) m.stack
           (omega arith)
@@ -140,14 +135,17 @@ module _ (file : List ℕ) (m : Limits) (cells stack : List ℕ) (r : Registers)
       let x = constructor_read ready.parsed a (build_known file m cells stack r i ws ok a cur) in
       (x.0, omega (arith, x.1, build_deep file m cells stack r i ws ok a cur))
 
-  pub build_stepped : w % 256 ≡ 2 → (next : ℕ) → Behind r.at 1 next → next ≤ 40000 → {cells' stack' : List ℕ} {t : Registers}
+  pub build_stepped : w % 256 ≡ 2 → (next : ℕ) → Behind r.at 1 next → next ≤ 40000 → {cells' stack' : List ℕ}
+      {t : Result Registers Rest}
       → Builds m cells stack r next (w / 256 % 256) (constructor_arity file (w / 256 % 256)) cells' stack' t
       → Stepped file m cells stack r cells' stack' t
-  build_stepped e next behind near {cells'} {stack'} {t} x =
-      stepped cells' stack' t (kept x) (same x)
-      (λ budget j vs fits on.
-      build_comes file m cells stack r j vs on a (at_build file ready.parsed m cells stack r j vs on word e)
-      (in_range ready.parsed) budget fits left ready.going ready.lent.stack_room next behind near _ is x)
+  build_stepped e next behind near x = record {
+    spared = kept x;
+    left = same x;
+    comes = λ budget j vs fits on.
+        build_comes file m cells stack r j vs on a (at_build file ready.parsed m cells stack r j vs on word e)
+        (in_range ready.parsed) budget fits left ready.lent.stack_room next behind near _ is x;
+  }
     where
       cur : current (program_in file) (place r.function i) ≡ Some (Build (w / 256 % 256))
       cur = at_build file ready.parsed m cells stack r i ws ok word e
@@ -155,11 +153,12 @@ module _ (file : List ℕ) (m : Limits) (cells stack : List ℕ) (r : Registers)
       is : constructor_arity file (w / 256 % 256) ≡ arity (program_in file) (w / 256 % 256)
       is = (constructor_read ready.parsed a (build_known file m cells stack r i ws ok a cur)).1
 
-      same : {cells' stack' : List ℕ} {t : Registers}
-          → Builds m cells stack r next (w / 256 % 256) (constructor_arity file (w / 256 % 256)) cells' stack' t → t.left ≡ r.left
-      same (build_full f) = refl
+      same : {cells' stack' : List ℕ} {t : Result Registers Rest}
+          → Builds m cells stack r next (w / 256 % 256) (constructor_arity file (w / 256 % 256)) cells' stack' t
+          → IfOk t (λ goes. goes.left ≡ r.left)
+      same (build_full f) = tt
       same (build_constant f z) = refl
-      same (build_short f z g) = refl
+      same (build_short f z g) = tt
       same (build_goes f z g p) = refl
 
       put : (number : ℕ) → r.top - constructor_arity file (w / 256 % 256) < m.stack
@@ -167,7 +166,7 @@ module _ (file : List ℕ) (m : Limits) (cells stack : List ℕ) (r : Registers)
       put number f =
           put_kept _ _ stack _ (put_one stack _ number (omega (arith, f, ready.lent.stack_room))) m.stack (omega arith)
 
-      kept : {cells' stack' : List ℕ} {t : Registers}
+      kept : {cells' stack' : List ℕ} {t : Result Registers Rest}
           → Builds m cells stack r next (w / 256 % 256) (constructor_arity file (w / 256 % 256)) cells' stack' t
           → Spared m cells stack cells' stack'
       kept (build_full f) = spared_none m cells stack
@@ -201,21 +200,26 @@ module _ (file : List ℕ) (m : Limits) (cells stack : List ℕ) (r : Registers)
       let range = (in_range ready.parsed).at r.function (w / 65536) t.0 t.1 in
       (current_first (program_in file) r.function (w / 65536) t.1, range.1, ok.laid.code.inside, ok.laid.code_near)
 
-  pub branch_stepped : w % 256 ≡ 4 → (next : ℕ) → Behind r.at 1 next → next ≤ 40000 → {stack' : List ℕ} {t : Registers}
+  pub branch_stepped : w % 256 ≡ 4 → (next : ℕ) → Behind r.at 1 next → next ≤ 40000 → {stack' : List ℕ} {t : Result Registers Rest}
       → Branches m cells stack r next (w / 256 % 256) (w / 65536) (constructor_arity file (w / 256 % 256)) stack' t
       → Stepped file m cells stack r cells stack' t
-  branch_stepped e next behind near {stack'} {t} x =
-      stepped cells stack' t (record { of_cells = cells_kept_refl m.cells cells; of_stack = kept x }) (same x)
-      (λ budget j vs fits on. one_of x budget j vs fits on)
+  branch_stepped e next behind near x = record {
+    spared = record { of_cells = cells_kept_refl m.cells cells; of_stack = kept x };
+    left = same x;
+    comes = λ budget j vs fits on.
+        branch_comes file m cells stack r j vs on a (w / 65536) (cur j vs on) budget fits left next behind near
+        (λ n. (branch_ready_other e n).0) _ is x;
+  }
     where
-      same : {stack' : List ℕ} {t : Registers}
-          → Branches m cells stack r next (w / 256 % 256) (w / 65536) (constructor_arity file (w / 256 % 256)) stack' t → t.left ≡ r.left
+      same : {stack' : List ℕ} {t : Result Registers Rest}
+          → Branches m cells stack r next (w / 256 % 256) (w / 65536) (constructor_arity file (w / 256 % 256)) stack' t
+          → IfOk t (λ goes. goes.left ≡ r.left)
       same (branch_passes n p q) = refl
       same (branch_constant y z) = refl
-      same (branch_full y z f) = refl
+      same (branch_full y z f) = tt
       same (branch_takes y z f p) = refl
 
-      kept : {stack' : List ℕ} {t : Registers}
+      kept : {stack' : List ℕ} {t : Result Registers Rest}
           → Branches m cells stack r next (w / 256 % 256) (w / 65536) (constructor_arity file (w / 256 % 256)) stack' t
           → KeptFrom m.stack stack stack'
       kept (branch_passes n p q) = kept_refl m.stack stack
@@ -232,62 +236,24 @@ module _ (file : List ℕ) (m : Limits) (cells stack : List ℕ) (r : Registers)
           → constructor_arity file (w / 256 % 256) ≡ arity (program_in file) (w / 256 % 256)
       is y z = (constructor_read ready.parsed a (branch_known file m cells stack r i ws ok a (w / 65536) (cur i ws ok) y z)).1
 
-      low : (label_in cells (top_reference stack r) ≡ w / 256 % 256 → ⊥) → 0 < w / 65536
-      low n = (branch_ready_other e n).0
-
-      one_of : {stack' : List ℕ} {t : Registers}
-          → Branches m cells stack r next (w / 256 % 256) (w / 65536) (constructor_arity file (w / 256 % 256)) stack' t
-          → (budget j : ℕ) (vs : List Frame) (fits : r.left ≤ budget) (on : Standing file m cells stack r j vs)
-          → Comes file m budget cells stack r j vs fits on cells stack' t
-      one_of (branch_passes n p q) budget j vs fits on =
-          branch_comes file m cells stack r j vs on a (w / 65536) (cur j vs on) budget fits left ready.going next behind near low
-          (arity (program_in file) a) refl (branch_passes n p q)
-      one_of (branch_constant y z) budget j vs fits on =
-          branch_comes file m cells stack r j vs on a (w / 65536) (cur j vs on) budget fits left ready.going next behind near low
-          (arity (program_in file) a) refl (branch_constant y z)
-      one_of (branch_full y z f) budget j vs fits on =
-          branch_comes file m cells stack r j vs on a (w / 65536) (cur j vs on) budget fits left ready.going next behind near low _
-          (is y z)
-          (branch_full y z f)
-      one_of (branch_takes y z f p) budget j vs fits on =
-          branch_comes file m cells stack r j vs on a (w / 65536) (cur j vs on) budget fits left ready.going next behind near low _
-          (is y z)
-          (branch_takes y z f p)
-
   ---- Call, return and stop: the frame rests
 
-  resting_stepped : (g why : ℕ) → 0 < why → why < 5 → (why ≡ 3 → ⊥)
-      → ((j : ℕ) (vs : List Frame) → Standing file m cells stack r j vs
-      → (why ≡ 1 → current (program_in file) (place r.function j) ≡ Some (Call g))
-      × (why ≡ 2 → current (program_in file) (place r.function j) ≡ Some Return)
-      × (why ≡ 4 → current (program_in file) (place r.function j) ≡ Some Stop))
-      → Stepped file m cells stack r cells stack (resting_at r g why)
-  resting_stepped g why lo hi n at = stepped cells stack (resting_at r g why) (spared_none m cells stack) refl
-      (λ budget j vs fits on.
-      let x = at j vs on in (
-        λ z. absurd (omega arith),
-        λ _. (
-          halted file m budget cells stack r j vs fits on g why,
-          rests_at file m budget cells stack r j vs fits on g why hi
-              (λ z. (left, x.0 z)) (λ z. (left, x.1 z)) (λ z. absurd (n z)) (λ z. (left, x.2 z)),
-        ),
-      ))
+  resting_stepped : (why : Rest)
+      → ((budget j : ℕ) (vs : List Frame) → Standing file m cells stack r j vs → Rests file m budget cells stack r j vs why)
+      → Stepped file m cells stack r cells stack (Err why)
+  resting_stepped why rests = record {
+    spared = spared_none m cells stack;
+    left = tt;
+    comes = λ budget j vs fits on. (same_place file m budget cells stack r j vs fits on, rests budget j vs on);
+  }
 
-  pub call_stepped : w % 256 ≡ 3 → Stepped file m cells stack r cells stack (resting_at r (w / 256 % 256) 1)
-  call_stepped e = resting_stepped a 1 (omega arith) (omega arith) (λ z. omega arith)
-      (λ j vs on.
-      (λ _. at_call file ready.parsed m cells stack r j vs on word e, λ z. absurd (omega arith), λ z. absurd (omega arith)))
+  pub call_stepped : w % 256 ≡ 3 → Stepped file m cells stack r cells stack (Err (Calls (w / 256 % 256)))
+  call_stepped e = resting_stepped (Calls a) (λ budget j vs on. (left, at_call file ready.parsed m cells stack r j vs on word e))
 
-  pub return_stepped : w % 256 ≡ 5 → Stepped file m cells stack r cells stack (resting r 2)
-  return_stepped e = resting_stepped r.callee 2 (omega arith) (omega arith) (λ z. omega arith)
-      (λ j vs on.
-      (λ z. absurd (omega arith), λ _. at_return file ready.parsed m cells stack r j vs on word e, λ z. absurd (omega arith)))
+  pub return_stepped : w % 256 ≡ 5 → Stepped file m cells stack r cells stack (Err Returns)
+  return_stepped e = resting_stepped Returns (λ budget j vs on. (left, at_return file ready.parsed m cells stack r j vs on word e))
 
   pub stop_stepped : (w % 256 ≡ 1 → ⊥) → (w % 256 ≡ 2 → ⊥) → (w % 256 ≡ 3 → ⊥) → (w % 256 ≡ 4 → ⊥) → (w % 256 ≡ 5 → ⊥)
-      → Stepped file m cells stack r cells stack (resting r 4)
-  stop_stepped n₁ n₂ n₃ n₄ n₅ = resting_stepped r.callee 4 (omega arith) (omega arith) (λ z. omega arith)
-      (λ j vs on. (
-        λ z. absurd (omega arith),
-        λ z. absurd (omega arith),
-        λ _. at_stop file ready.parsed m cells stack r j vs on word n₁ n₂ n₃ n₄ n₅,
-      ))
+      → Stepped file m cells stack r cells stack (Err Stops)
+  stop_stepped n₁ n₂ n₃ n₄ n₅ =
+      resting_stepped Stops (λ budget j vs on. (left, at_stop file ready.parsed m cells stack r j vs on word n₁ n₂ n₃ n₄ n₅))

@@ -6,14 +6,10 @@ use Rattle.std.specs.Prelude.{None, Some}
 use native.Mathlib.Omega.{arith}
 use native.Mathlib.Numerals.{add-one}
 use lib.ListN.{length}
-use Rattle.rules.specs.Base.{refusal}
 use Rattle.rules.specs.Heap.{HeapFrame, HeapState, heap_step}
 use Rattle.rules.specs.HeapRun.{end_on, continued_on}
-use Rattle.rules.specs.Machine.{current}
 use Rattle.rules.specs.Program.{Program}
 use Rattle.rules.specs.Records.{program_in}
-use Rattle.rules.specs.Run.{answer, refused_with}
-use Rattle.rules.specs.declared.records.Instruction.TheVariants.{Call, Return, Stop}
 use Rattle.rules.proofs.HeapGrowth.{heap_grows}
 use Rattle.store.specs.Limits.{tables}
 use Rattle.store.specs.declared.frames.Frame.{Frame}
@@ -21,11 +17,10 @@ use Rattle.store.specs.declared.limits.Limits.{Limits}
 use Rattle.store.proofs.RefLaws.{length_refs}
 use Rattle.store.proofs.CellLaws.{heap_length}
 use Rattle.rules.specs.Prefix.{arity}
-use Rattle.fetch.specs.Arities.{place}
 use Rattle.fetch.specs.Places.{StandsAt, Behind}
 use Rattle.fetch.proofs.PlaceLaws.{behind_stands}
-use Rattle.steps.specs.Stands.{waiting_on, top_on, state_in, Laid, Standing, answers_on, LeadsTo}
-use Rattle.steps.specs.Steps.{resting_at, resting, moved, counted, Rests}
+use Rattle.steps.specs.Stands.{waiting_on, top_on, state_in, Laid, Standing, LeadsTo}
+use Rattle.steps.specs.Steps.{moved, counted, Refuses}
 use Rattle.steps.specs.declared.state.Registers.{Registers}
 use Rattle.steps.proofs.ContinueLaws.{heights_on, goes_on_lem, no_frames, no_stack_lem, no_cells}
 use Rattle.steps.proofs.StandLaws.{waiting_heights, waiting_length, sound_next}
@@ -82,38 +77,13 @@ module _ (file : List ℕ) (m : Limits) (budget : ℕ) (cells stack : List ℕ) 
       next = state_in (program_in file) cells' stack' t i' ws'
 
   -- no step is taken
-  pub halted : (g why : ℕ) → LeadsTo file m budget cells stack r i ws cells stack (resting_at r g why) i ws
-  halted g why = record {
-    standing = record {
-      few = ok.few;
-      laid = record {
-        code = ok.laid.code;
-        code_near = ok.laid.code_near;
-        at = ok.laid.at;
-        at_near = ok.laid.at_near;
-        known = ok.laid.known;
-        bottom = ok.laid.bottom;
-        places = ok.laid.places;
-        taken = ok.laid.taken;
-        linked = ok.laid.linked;
-        depth = ok.laid.depth;
-        deep = ok.laid.deep;
-      };
-      valid = ok.valid;
-      sound = ok.sound;
-    };
-    fewer = omega arith;
-    same = refl;
-  }
+  pub same_place : LeadsTo file m budget cells stack r i ws cells stack r i ws
+  same_place = record { standing = ok; fewer = omega arith; same = refl }
 
   ---- The tables refuse the state behind the step
 
   module _ (left : 0 < r.left) (next : HeapState) (ends : end_on (program_in file) here.heap here.frames ≡ None)
       (e : heap_step (program_in file) here ≡ Some next) where
-    abbrev Refuses : ℕ → Type 0
-    Refuses n = answers_on (program_in file) m budget cells stack r i ws
-        ≡ answer (refused_with (refusal n r.function i)) (budget - r.left)
-
     one : r.left ≡ suc (r.left - 1)
     one = omega arith
 
@@ -121,69 +91,16 @@ module _ (file : List ℕ) (m : Limits) (budget : ℕ) (cells stack : List ℕ) 
         ≡ continued_on (program_in file) (tables m) (suc (r.left - 1)) (budget - r.left) here
     from = ap (λ (k : ℕ). continued_on s (tables m) k (budget - r.left) here) one
 
-    pub refuses_frames : m.frames < length next.frames → Refuses 17
+    pub refuses_frames : m.frames < length next.frames → Refuses file m budget cells stack r i ws 17
     refuses_frames f = from ∙ no_frames s (tables m) (r.left - 1) (budget - r.left) here.heap fr others next ends e f
 
-    pub refuses_stack : length next.frames ≤ m.frames → m.stack < heights_on next.frames → Refuses 16
+    pub refuses_stack : length next.frames ≤ m.frames → m.stack < heights_on next.frames
+        → Refuses file m budget cells stack r i ws 16
     refuses_stack f h = from ∙ no_stack_lem s (tables m) (r.left - 1) (budget - r.left) here.heap fr others next ends e f h
 
-    pub refuses_cells : length next.frames ≤ m.frames → heights_on next.frames ≤ m.stack → m.cells < length next.heap → Refuses
-        15
+    pub refuses_cells : length next.frames ≤ m.frames → heights_on next.frames ≤ m.stack → m.cells < length next.heap
+        → Refuses file m budget cells stack r i ws 15
     refuses_cells f h k = from ∙ no_cells s (tables m) (r.left - 1) (budget - r.left) here.heap fr others next ends e f h k
-
-  -- a number of document 01 for a table
-  pub rests_short : (n : ℕ) → 15 ≤ n → n ≤ 17
-      → answers_on (program_in file) m budget cells stack r i ws ≡ answer (refused_with (refusal n r.function i)) (budget - r.left)
-      → Rests file m budget cells stack (resting r n) i ws
-  rests_short n lo hi e = record {
-    calls = λ x. absurd (omega arith);
-    returns = λ x. absurd (omega arith);
-    result = λ x. absurd (omega arith);
-    stops = λ x. absurd (omega arith);
-    spent = λ x. absurd (omega arith);
-    short = λ a b. (lo, hi, e);
-  }
-
-  -- the other reasons for a rest
-  pub rests_at : (g why : ℕ) → why < 5
-      → (why ≡ 1 → (0 < r.left) × (current (program_in file) (place r.function i) ≡ Some (Call g)))
-      → (why ≡ 2 → (0 < r.left) × (current (program_in file) (place r.function i) ≡ Some Return))
-      → (why ≡ 3 → (length ws ≡ 0) × (current (program_in file) (place r.function i) ≡ Some Return))
-      → (why ≡ 4 → (0 < r.left) × (current (program_in file) (place r.function i) ≡ Some Stop))
-      → Rests file m budget cells stack (resting_at r g why) i ws
-  rests_at g why low calls returns result stops = record {
-    calls = calls;
-    returns = returns;
-    result = result;
-    stops = stops;
-    spent = λ x. absurd (omega arith);
-    short = λ a b. absurd (omega arith);
-  }
-
-  pub rests_spent : r.left ≡ 0 → Rests file m budget cells stack (resting r 14) i ws
-  rests_spent none_left = record {
-    calls = λ x. absurd (omega arith);
-    returns = λ x. absurd (omega arith);
-    result = λ x. absurd (omega arith);
-    stops = λ x. absurd (omega arith);
-    spent = λ _. none_left;
-    short = λ a b. absurd (b refl);
-  }
-
-  -- the step is taken, or the frame rests
-  abbrev pub Comes : List ℕ → List ℕ → Registers → Type 0
-  Comes cells' stack' t =
-      (t.why ≡ 0 → (i' : ℕ) × LeadsTo file m budget cells stack r i ws cells' stack' (counted t) i' ws)
-      × ((t.why ≡ 0 → ⊥) → LeadsTo file m budget cells stack r i ws cells' stack' t i ws × Rests file m budget cells' stack' t i ws)
-
-  pub comes_on : (cells' stack' : List ℕ) (t : Registers) (i' : ℕ) → t.why ≡ 0
-      → LeadsTo file m budget cells stack r i ws cells' stack' (counted t) i' ws → Comes cells' stack' t
-  comes_on cells' stack' t i' e x = (λ _. (i', x), λ n. absurd (n e))
-
-  pub comes_short : (n : ℕ) → 15 ≤ n → n ≤ 17
-      → answers_on (program_in file) m budget cells stack r i ws ≡ answer (refused_with (refusal n r.function i)) (budget - r.left)
-      → Comes cells stack (resting r n)
-  comes_short n lo hi e = (λ x. absurd (omega arith), λ _. (halted r.callee n, rests_short n lo hi e))
 
 -- the top frame at another place of its code
 pub moved_laid : (file : List ℕ) (m : Limits) (cells : List ℕ) (r : Registers) (i : ℕ) (ws : List Frame) → Laid file m cells r i ws

@@ -8,34 +8,34 @@ ghost use Rattle.store.specs.Cells.{label_in};
 ghost use Rattle.fetch.specs.Indexed.{constructor_arity};
 ghost use Rattle.fetch.specs.Places.{Inside};
 ghost use Rattle.steps.specs.Stands.{Lent};
-ghost use Rattle.steps.specs.Steps.{moved, calling, top_reference, Loads, Builds, Branches, Stepped};
+ghost use Rattle.steps.specs.Steps.{top_reference, Loads, Builds, Branches, Stepped};
 ghost use Rattle.steps.specs.Pauses.{Ready, Pauses};
 
-use crate::state::{CALLS, GOES, NO_CELLS, NO_STACK, NO_STEPS, RETURNS, Registers, STOPS, paused};
+use crate::state::{Registers, Rest, Table};
 use fetch::{constructor_arity, fetch, place_behind};
-use store::{Limits, wide16};
-
-// The frame goes on at another place, with another top of its stack.
-fn went(r: Registers, at: usize, top: usize) -> Registers
-    ensures { result ≡ moved r at top }
-{
-    let mut t = r;
-    t.at = at;
-    t.top = top;
-    t
-}
+use store::Limits;
 
 // Load: slot a is copied on top.
-fn load(stack: &mut [u16], m: Limits, r: Registers, next: usize, a: usize) -> Registers
+fn load(
+    stack: &mut [u16],
+    m: Limits,
+    r: Registers,
+    next: usize,
+    a: usize,
+) -> Result<Registers, Rest>
     requires { (0 < a) × (r.base + a ≤ r.top) × (r.top ≤ m.stack) × (m.stack ≤ length stack.old) × (m.stack ≤ 65535) }
     ensures { Loads m stack.old r next a stack.new result }
 {
     let top = r.top;
     if top >= m.stack {
-        return paused(r, NO_STACK);
+        return Err(Rest::OutOf(Table::Stack));
     }
     stack[top] = stack[r.base + a - 1];
-    went(r, next, top + 1)
+    Ok(Registers {
+        at: next,
+        top: top + 1,
+        ..r
+    })
 }
 
 // Build: constructor c takes the place of the top values that are its arguments. A constant takes no cell.
@@ -47,7 +47,7 @@ fn build(
     r: Registers,
     next: usize,
     c: usize,
-) -> Registers
+) -> Result<Registers, Rest>
     requires { (Parsed file.now × (c < byte_at (payload file.now) 2)) × Lent m cells.old stack.old
         × (constructor_arity file.now c ≤ r.top) × (r.top ≤ m.stack) }
     ensures { Builds m cells.old stack.old r next c (constructor_arity file.now c)
@@ -57,19 +57,26 @@ fn build(
     let used = r.used;
     let from = r.top - n;
     if from >= m.stack {
-        return paused(r, NO_STACK);
+        return Err(Rest::OutOf(Table::Stack));
     }
     if n == 0 {
         stack[from] = c as u16;
-        return went(r, next, from + 1);
+        return Ok(Registers {
+            at: next,
+            top: from + 1,
+            ..r
+        });
     }
     if used >= m.cells {
-        return paused(r, NO_CELLS);
+        return Err(Rest::OutOf(Table::Cells));
     }
     stack[from] = store::put_cell(cells, used, c as u16, stack, from, n);
-    let mut t = went(r, next, from + 1);
-    t.used = used + 1;
-    t
+    Ok(Registers {
+        at: next,
+        top: from + 1,
+        used: used + 1,
+        ..r
+    })
 }
 
 // Branch: a top value of constructor c gives way to its arguments; with any other, b is next.
@@ -82,7 +89,7 @@ fn branch(
     next: usize,
     c: usize,
     b: usize,
-) -> Registers
+) -> Result<Registers, Rest>
     requires lent { Lent m cells.now stack.old × (0 < r.top) × (r.top ≤ m.stack)
         × (top_reference stack.old r < number_of m.cells) }
     requires parsed { label_in cells.now (top_reference stack.old r) ≡ c → is_constant (top_reference stack.old r) ≡ false
@@ -93,33 +100,40 @@ fn branch(
         stack.new result }
 {
     let last = r.top - 1;
-    let k = wide16(stack[last]);
+    let k = usize::from(stack[last]);
     if store::constructor_at(cells, k) != c {
-        return went(r, place_behind(r.code, b - 1), r.top);
+        return Ok(Registers {
+            at: place_behind(r.code, b - 1),
+            ..r
+        });
     }
     if store::is_constant(k) {
-        return went(r, next, last);
+        return Ok(Registers {
+            at: next,
+            top: last,
+            ..r
+        });
     }
     let n = constructor_arity(file, c);
     if last + n > m.stack {
-        return paused(r, NO_STACK);
+        return Err(Rest::OutOf(Table::Stack));
     }
     store::spread(cells, k, stack, last, n);
-    went(r, next, last + n)
-}
-
-// Call: the frame rests until another is put above it.
-fn called(r: Registers, g: usize) -> Registers
-    ensures { result ≡ calling r g }
-{
-    let mut t = r;
-    t.callee = g;
-    t.why = CALLS;
-    t
+    Ok(Registers {
+        at: next,
+        top: last + n,
+        ..r
+    })
 }
 
 // One step of the top frame, or why it rests.
-fn one(file: &[u8], cells: &mut [u16], stack: &mut [u16], m: Limits, r: Registers) -> Registers
+fn one(
+    file: &[u8],
+    cells: &mut [u16],
+    stack: &mut [u16],
+    m: Limits,
+    r: Registers,
+) -> Result<Registers, Rest>
     requires { Ready file.now m cells.old stack.old r × (0 < r.left) }
     ensures { Stepped file.now m cells.old stack.old r cells.new stack.new result }
 {
@@ -130,10 +144,10 @@ fn one(file: &[u8], cells: &mut [u16], stack: &mut [u16], m: Limits, r: Register
     match operation {
         1 => load(stack, m, r, f.next, a),
         2 => build(file, cells, stack, m, r, f.next, a),
-        3 => called(r, a),
+        3 => Err(Rest::Calls(a)),
         4 => branch(file, cells, stack, m, r, f.next, a, (w / 65536) as usize),
-        5 => paused(r, RETURNS),
-        _ => paused(r, STOPS),
+        5 => Err(Rest::Returns),
+        _ => Err(Rest::Stops),
     }
 }
 
@@ -144,19 +158,22 @@ pub fn straight(
     stack: &mut [u16],
     m: Limits,
     start: Registers,
-) -> Registers
+) -> (Registers, Rest)
     requires { Ready file.now m cells.old stack.old start }
     ensures { Pauses file.now m cells.old stack.old start cells.new stack.new
-        result }
+        result.0 result.1 }
 {
     let mut r = start;
     while r.left > 0 {
-        let t = one(file, cells, stack, m, r);
-        if t.why != GOES {
-            return t;
+        match one(file, cells, stack, m, r) {
+            Ok(t) => {
+                r = Registers {
+                    left: t.left - 1,
+                    ..t
+                };
+            }
+            Err(rest) => return (r, rest),
         }
-        r = t;
-        r.left -= 1;
     }
-    paused(r, NO_STEPS)
+    (r, Rest::Spent)
 }

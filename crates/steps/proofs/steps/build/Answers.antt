@@ -11,7 +11,7 @@ pub constructor_arity-n-requires : goal.constructor_arity-n-requires
 constructor_arity-n-requires c = c.requires.0
 
 pub returns-then-from-m : goal.returns-then-from-m
-returns-then-from-m c = rw c.paused.ensures (build_full (omega arith))
+returns-then-from-m c = build_full (omega arith)
 
 pub overflow_cast-stack : goal.overflow_cast-stack
 overflow_cast-stack c =
@@ -20,12 +20,12 @@ overflow_cast-stack c =
 pub returns-then-n-eq0 : goal.returns-then-n-eq0
 returns-then-n-eq0 c =
     let arity = c.constructor_arity-n.ensures in
-    rw (c.went.ensures, arity) (build_constant (omega arith) (sym arity ∙ c.if-n-eq0.true))
+    rw arity (build_constant (omega arith) (sym arity ∙ c.if-n-eq0.true))
 
 pub returns-then-used-m : goal.returns-then-used-m
 returns-then-used-m c =
     let arity = c.constructor_arity-n.ensures in
-    rw c.paused-then-used-m.ensures (build_short (omega arith) (λ e. c.if-n-eq0.false (arity ∙ e)) (omega arith))
+    build_short (omega arith) (λ e. c.if-n-eq0.false (arity ∙ e)) (omega arith)
 
 pub overflow_cast-c : goal.overflow_cast-c
 overflow_cast-c c =
@@ -45,5 +45,5 @@ pub returns : goal.returns
 returns c =
     let arity = c.constructor_arity-n.ensures in
     let put = c.put_cell.ensures in
-    rw (c.went-t.ensures, put.0, arity)
+    rw (put.0, arity)
     (build_goes (omega arith) (λ e. c.if-n-eq0.false (arity ∙ e)) (omega arith) (rw arity at put.1))

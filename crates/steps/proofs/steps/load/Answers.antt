@@ -4,7 +4,7 @@ use Rattle.steps.specs.Steps.{load_full, load_goes}
 use Rattle.steps.proofs.steps.load.Goals as goal
 
 pub returns-then-top-m : goal.returns-then-top-m
-returns-then-top-m c = rw c.paused.ensures (load_full (omega arith))
+returns-then-top-m c = load_full (omega arith)
 
 pub returns : goal.returns
-returns c = rw c.went.ensures (load_goes (omega arith))
+returns c = load_goes (omega arith)

@@ -48,7 +48,7 @@ returns-in-2 c =
 pub returns-in-3 : goal.returns-in-3
 returns-in-3 c =
     let word = c.fetch-f.ensures in
-    rw c.called.ensures (call_stepped _ _ _ _ _ c.requires.0 c.requires.1 word.0 c.in-3.is)
+    call_stepped _ _ _ _ _ c.requires.0 c.requires.1 word.0 c.in-3.is
 
 pub returns-in-4 : goal.returns-in-4
 returns-in-4 c =
@@ -59,10 +59,10 @@ returns-in-4 c =
 pub returns-in-5 : goal.returns-in-5
 returns-in-5 c =
     let word = c.fetch-f.ensures in
-    rw c.paused.ensures (return_stepped _ _ _ _ _ c.requires.0 c.requires.1 word.0 c.in-5.is)
+    return_stepped _ _ _ _ _ c.requires.0 c.requires.1 word.0 c.in-5.is
 
 pub returns-in_default : goal.returns-in_default
 returns-in_default c =
     let word = c.fetch-f.ensures in
-    rw c.paused-in_default.ensures (stop_stepped _ _ _ _ _ c.requires.0 c.requires.1 word.0
-    (λ e. omega arith) (λ e. omega arith) (λ e. omega arith) (λ e. omega arith) (λ e. omega arith))
+    stop_stepped _ _ _ _ _ c.requires.0 c.requires.1 word.0
+    (λ e. omega arith) (λ e. omega arith) (λ e. omega arith) (λ e. omega arith) (λ e. omega arith)
