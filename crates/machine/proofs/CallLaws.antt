@@ -5,13 +5,11 @@ use mathlib.Core.List.{List, ◌∷◌}
 use Rattle.std.specs.Prelude.{None, Some}
 use native.Mathlib.Omega.{arith}
 use lib.ListN.{length}
-use Rattle.rules.specs.Base.{refusal}
 use Rattle.rules.specs.Heap.{HeapFrame, HeapState, heap_state, entered, execute_on, heap_step}
 use Rattle.rules.specs.HeapRun.{end_on}
 use Rattle.rules.specs.Machine.{current, returned}
 use Rattle.rules.specs.Program.{Function, Program, function}
 use Rattle.rules.specs.Records.{program_in}
-use Rattle.rules.specs.Run.{answer, refused_with}
 use Rattle.rules.specs.Stacks.{split}
 use Rattle.rules.specs.declared.records.Instruction.TheVariants.{Call}
 use Rattle.rules.proofs.ListLaws.{at_less}
@@ -23,7 +21,8 @@ use Rattle.store.proofs.RefLaws.{length_refs, refs_split_few, refs_split, put_lo
 use Rattle.fetch.specs.Arities.{inputs, place}
 use Rattle.fetch.specs.Places.{StandsAt}
 use Rattle.fetch.proofs.ArityLaws.{inputs_is}
-use Rattle.steps.specs.Stands.{waiting_on, top_on, state_in, Linked, Laid, Standing, answers_on, LeadsTo}
+use Rattle.steps.specs.Stands.{waiting_on, top_on, state_in, Linked, Laid, Standing, LeadsTo}
+use Rattle.steps.specs.Steps.{Refuses}
 use Rattle.machine.specs.Turns.{waiting_for, entered as entered_from}
 use Rattle.steps.specs.declared.state.Registers.{Registers}
 use Rattle.steps.proofs.ContinueLaws.{heights_on, step_is, not_ended, exec_call}
@@ -31,12 +30,9 @@ use Rattle.steps.proofs.StandLaws.{waiting_same, waiting_heights, waiting_length
 use Rattle.steps.proofs.StepLaws.{took, refuses_frames, refuses_stack}
 
 module _ (file : List ℕ) (m : Limits) (cells stack : List ℕ) (r : Registers) (i : ℕ) (ws : List Frame)
-    (ok : Standing file m cells stack r i ws) (cur : current (program_in file) (place r.function i) ≡ Some (Call r.callee)) where
+    (ok : Standing file m cells stack r i ws) (g : ℕ) (cur : current (program_in file) (place r.function i) ≡ Some (Call g)) where
   abbrev s : Program
   s = program_in file
-
-  abbrev g : ℕ
-  g = r.callee
 
   abbrev fr : HeapFrame
   fr = top_on stack r i
@@ -51,13 +47,13 @@ module _ (file : List ℕ) (m : Limits) (cells stack : List ℕ) (r : Registers)
   h = r.top - r.base
 
   abbrev n : ℕ
-  n = inputs (program_in file) r.callee
+  n = inputs (program_in file) g
 
   ends : end_on (program_in file) here.heap here.frames ≡ None
   unfolding returned
   ends = not_ended s here.heap fr others cur refl
 
-  shape : (f : Function) × (function (program_in file) r.callee ≡ Some f) × (length f.parameters ≤ r.top - r.base)
+  shape : (f : Function) × (function (program_in file) g ≡ Some f) × (length f.parameters ≤ r.top - r.base)
   unfolding execute_on
   shape =
       let x = lives file m cells stack r i ws ok ends in
@@ -65,13 +61,13 @@ module _ (file : List ℕ) (m : Limits) (cells stack : List ℕ) (r : Registers)
       let p = bind_some (split (length f.0.parameters) (refs stack r.base h)) _ f.2 in
       (f.0, f.1, refs_split_few stack r.base h (length f.0.parameters) p.1)
 
-  is_inputs : inputs (program_in file) r.callee ≡ length shape.0.parameters
+  is_inputs : inputs (program_in file) g ≡ length shape.0.parameters
   is_inputs = inputs_is s g shape.1
 
-  pub call_known : r.callee < length (program_in file).functions
+  pub call_known : g < length (program_in file).functions
   call_known = at_less s.functions g shape.1
 
-  pub call_deep : r.base + inputs (program_in file) r.callee ≤ r.top
+  pub call_deep : r.base + inputs (program_in file) g ≤ r.top
   call_deep = omega (arith, shape.2, is_inputs, ok.laid.bottom)
 
   abbrev next : HeapState
@@ -99,27 +95,24 @@ module _ (file : List ℕ) (m : Limits) (cells stack : List ℕ) (r : Registers)
   tall = omega (arith, waiting_length stack ws r.base, ok.laid.depth)
 
   module _ (budget : ℕ) (fits : r.left ≤ budget) (left : 0 < r.left) where
-    abbrev Refuses : ℕ → Type 0
-    Refuses number = answers_on (program_in file) m budget cells stack r i ws
-        ≡ answer (refused_with (refusal number r.function i)) (budget - r.left)
-
-    pub call_frames : m.frames ≤ r.depth + 1 → Refuses 17
+    pub call_frames : m.frames ≤ r.depth + 1 → Refuses file m budget cells stack r i ws 17
     call_frames f = refuses_frames file m budget cells stack r i ws fits ok left next ends steps (omega (arith, tall))
 
-    pub call_stack : r.depth + 1 < m.frames → m.stack < r.top + inputs (program_in file) r.callee → Refuses 16
+    pub call_stack : r.depth + 1 < m.frames → m.stack < r.top + inputs (program_in file) g
+        → Refuses file m budget cells stack r i ws 16
     call_stack f f' =
         refuses_stack file m budget cells stack r i ws fits ok left next ends steps (omega (arith, tall)) (omega (arith, heights))
 
     module _ (stack' : List ℕ) (code : ℕ)
-        (put : RefsPut r.top (refs stack (r.top - inputs (program_in file) r.callee) (inputs (program_in file) r.callee)) stack
+        (put : RefsPut r.top (refs stack (r.top - inputs (program_in file) g) (inputs (program_in file) g)) stack
         stack')
-        (stands : StandsAt file r.callee 1 code) (near : code ≤ 33000) (deep : r.depth + 1 < m.frames)
-        (room : r.top + inputs (program_in file) r.callee ≤ m.stack) where
+        (stands : StandsAt file g 1 code) (near : code ≤ 33000) (deep : r.depth + 1 < m.frames)
+        (room : r.top + inputs (program_in file) g ≤ m.stack) where
       abbrev w : Frame
       w = waiting_for r i
 
       abbrev t : Registers
-      t = entered_from r (inputs (program_in file) r.callee) code
+      t = entered_from r g (inputs (program_in file) g) code
 
       low : r.top - h ≡ r.base
       low = omega (arith, ok.laid.bottom)
@@ -138,11 +131,11 @@ module _ (file : List ℕ) (m : Limits) (cells stack : List ℕ) (r : Registers)
           ap (λ (x : ℕ). refs stack x n) e ∙ sym put.put ∙ ap (refs stack' r.top) (length_refs stack (r.top - n) n)
           ∙ ap (refs stack' r.top) (sym f)
 
-      linked : Linked (program_in file) (waiting_for r i ∷ ws) r.top r.callee
+      linked : Linked (program_in file) (waiting_for r i ∷ ws) r.top g
       unfolding Linked
       linked = (omega arith, omega (arith, call_deep), call_known, cur, rw low ok.laid.linked)
 
-      laid : Laid file m cells (entered_from r (inputs (program_in file) r.callee) code) 1 (waiting_for r i ∷ ws)
+      laid : Laid file m cells (entered_from r g (inputs (program_in file) g) code) 1 (waiting_for r i ∷ ws)
       laid = record {
         code = stands;
         code_near = near;
@@ -157,7 +150,7 @@ module _ (file : List ℕ) (m : Limits) (cells stack : List ℕ) (r : Registers)
         deep = deep;
       }
 
-      pub call_goes : LeadsTo file m budget cells stack r i ws cells stack' (entered_from r (inputs (program_in file) r.callee) code) 1
+      pub call_goes : LeadsTo file m budget cells stack r i ws cells stack' (entered_from r g (inputs (program_in file) g) code) 1
           (waiting_for r i ∷ ws)
       call_goes =
           took file m budget cells stack r i ws fits ok cells stack' t 1 (w ∷ ws) ends

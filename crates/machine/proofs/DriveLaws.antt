@@ -1,11 +1,9 @@
 -- The run's loop: it goes from one frame that rests to the next, until the run is at its end.
-use Prim.Native.Nat.{ℕ, zero, suc, ◌+◌, ◌≤◌, ◌<◌}
+use Prim.Native.Nat.{ℕ, ◌≤◌, ◌<◌}
 use mathlib.Core.Path.{◌≡◌, refl, sym, ap, ◌∙◌, subst}
 use mathlib.Core.List.{List}
+use Rattle.std.specs.Prelude.{Result, Ok, Err}
 use native.Mathlib.Omega.{arith}
-use lib.ListN.{length}
-use Rattle.rules.specs.Container.{payload}
-use Rattle.rules.specs.Established.{Verified}
 use Rattle.store.specs.Frames.{frames_in, FramesKept}
 use Rattle.store.specs.Limits.{LimitsOf}
 use Rattle.store.specs.declared.frames.Frame.{Frame}
@@ -14,35 +12,17 @@ use Rattle.store.proofs.RefLaws.{kept_refl}
 use Rattle.store.proofs.CellLaws.{cells_kept_refl, cells_kept_length}
 use Rattle.store.proofs.FrameLaws.{frames_length, frames_kept_refl, frames_kept_trans, frames_kept_length}
 use Rattle.store.proofs.LimitLaws.{limits_kept}
-use Rattle.fetch.specs.Places.{offset_at, Inside}
+use Rattle.fetch.specs.declared.index.Index.{Index}
 use Rattle.steps.specs.Stands.{Lent, Standing, Spared, LeadsTo}
 use Rattle.steps.specs.Steps.{Rests}
 use Rattle.steps.specs.Pauses.{Ready, Pauses}
-use Rattle.machine.specs.Turns.{Rested, Turned, Settles, settles_other, settles_above, settles_spent, settles_result}
+use Rattle.machine.specs.Turns.{Rested, Gives, Turned}
+use Rattle.machine.specs.declared.run.End.{End}
 use Rattle.machine.specs.Runs.{Begun, Ends}
 use Rattle.steps.specs.declared.state.Registers.{Registers}
-use Rattle.machine.proofs.EndLaws.{settled_ends}
+use Rattle.steps.specs.declared.state.Rest.{Rest}
+use Rattle.machine.proofs.EndLaws.{answered}
 use Rattle.steps.proofs.LoopLaws.{spared_trans, leads_trans}
-use Rattle.steps.proofs.OneLaws.{fetch_there}
-
--- a run that goes on has one more turn than steps
-abbrev pub turns : ℕ → ℕ → ℕ
-turns zero left = suc left
-turns (suc n) left = 0
-
-turns_less : (a l b l' : ℕ) → a ≡ 0 → (b ≡ 0 → l' < l) → turns b l' < turns a l
-turns_less a l b l' e less = subst (λ (x : ℕ). turns b l' < turns x l) (sym e) (go b less)
-  where
-    go : (n : ℕ) → (n ≡ 0 → l' < l) → turns n l' < suc l
-    go zero h = omega (arith, h refl)
-    go (suc n) h = omega arith
-
--- the last look at an instruction takes no step
-pub settled_left : {bytes : List ℕ} {r t : Registers} → Settles bytes r t → t.left ≡ r.left
-settled_left (settles_other n) = refl
-settled_left (settles_above n) = refl
-settled_left (settles_spent d w n) = refl
-settled_left (settles_result e d w q) = refl
 
 -- what the tables lend the top frame
 lent_of : (m : Limits) (cells stack : List ℕ) (frames : List Frame) → LimitsOf m cells stack frames → Lent m cells stack
@@ -55,20 +35,17 @@ pub record Drove (file : List ℕ) (m : Limits) (cells stack : List ℕ) (frames
   pub spared : Spared m cells stack cells' stack'
   pub spared_frames : FramesKept m.frames frames frames'
   pub fewer : t.left ≤ r.left
-  pub over : (t.why ≡ 0 → ⊥) → 2 < t.why
   pub leads : (budget i : ℕ) → r.left ≤ budget → Standing file m cells stack r i (frames_in frames r.depth)
       → (i' : ℕ) × LeadsTo file m budget cells stack r i (frames_in frames r.depth) cells' stack' t i' (frames_in frames' t.depth)
-      × ((t.why ≡ 0 → ⊥) → Rests file m budget cells' stack' t i' (frames_in frames' t.depth))
 
-module _ (file index : List ℕ) (m : Limits) (cells stack : List ℕ) (frames : List Frame) (r : Registers)
+module _ (file : List ℕ) (index : Index) (m : Limits) (cells stack : List ℕ) (frames : List Frame) (r : Registers)
     (begun : Begun file index m cells stack frames r) where
   pub drove_none : Drove file m cells stack frames r cells stack frames r
   drove_none = record {
     spared = record { of_cells = cells_kept_refl m.cells cells; of_stack = kept_refl m.stack stack };
     spared_frames = frames_kept_refl m.frames frames;
     fewer = omega arith;
-    over = λ n. absurd (n begun.going);
-    leads = λ budget i fits ok. (i, record { standing = ok; fewer = omega arith; same = refl }, λ n. absurd (n begun.going));
+    leads = λ budget i fits ok. (i, record { standing = ok; fewer = omega arith; same = refl });
   }
 
   module _ (cells₁ stack₁ : List ℕ) (frames₁ : List Frame) (r₁ : Registers)
@@ -87,86 +64,115 @@ module _ (file index : List ℕ) (m : Limits) (cells stack : List ℕ) (frames :
         (frames_in frames₁ r₁.depth)
     stands₁ = (drove.leads r.left begun.instruction (omega arith) begun.standing).1.standing
 
-    pub ready_now : r₁.why ≡ 0 → Ready file m cells₁ stack₁ r₁
-    ready_now e = record {
+    pub ready_now : Ready file m cells₁ stack₁ r₁
+    ready_now = record {
       parsed = begun.indexed.parsed;
       lent = lent_of m cells₁ stack₁ frames₁ limits₁;
-      going = e;
       instruction = at₁;
       waiting = frames_in frames₁ r₁.depth;
       standing = stands₁;
     }
 
-    pub settled_ready : Verified file × Inside r₁.at × (offset_at r₁.at + 4 ≤ length (payload file))
-    settled_ready = fetch_there file begun.indexed.parsed m cells₁ stack₁ r₁ at₁ (frames_in frames₁ r₁.depth) stands₁
-
-    -- the run is at its end
-    pub drove_ends : (r₁.why ≡ 0 → ⊥) → {t : Registers} → Settles (payload file) r₁ t → t.left ≡ r₁.left
-        → Ends file m cells stack frames r cells₁ stack₁ frames₁ t
-    drove_ends n {t} settles same_left = record {
-      spared = drove.spared;
-      spared_frames = drove.spared_frames;
-      fewer = omega (arith, drove.fewer);
-      ends = λ budget i fits ok.
-          let x = drove.leads budget i fits ok in (
-            x.0,
-            frames_in frames₁ r₁.depth,
-            settled_ends file begun.indexed.parsed m budget _ cells₁ stack₁ r₁ x.0 (frames_in frames₁ r₁.depth) x.1.standing
-                (frames_length frames₁ r₁.depth) (omega (arith, drove.fewer)) (x.2 n) (drove.over n) x.1.same settles,
-          );
-    }
-
-    module _ (cells₂ stack₂ : List ℕ) (t : Registers) (pauses : Pauses file m cells₁ stack₁ r₁ cells₂ stack₂ t) where
+    module _ (cells₂ stack₂ : List ℕ) (t : Registers) (why : Rest)
+        (pauses : Pauses file m cells₁ stack₁ r₁ cells₂ stack₂ t why) where
       limits₂ : LimitsOf m cells₂ stack₂ frames₁
       limits₂ =
           limits_kept m cells₁ stack₁ frames₁ cells₂ stack₂ frames₁ limits₁
           (cells_kept_length m.cells cells₁ cells₂ pauses.spared.of_cells) pauses.spared.of_stack.len refl
 
-      abbrev ws₁ : List Frame
-      ws₁ = frames_in frames₁ r₁.depth
+      -- where its top frame rests, the frames that wait are those of the table
+      rests_there : (budget i : ℕ) → r₁.left ≤ budget → Standing file m cells₁ stack₁ r₁ i (frames_in frames₁ r₁.depth)
+          → (i' : ℕ)
+          × LeadsTo file m budget cells₁ stack₁ r₁ i (frames_in frames₁ r₁.depth) cells₂ stack₂ t i' (frames_in frames₁ t.depth)
+          × Rests file m budget cells₂ stack₂ t i' (frames_in frames₁ t.depth) why
+      rests_there budget i fits ok =
+          let x = pauses.leads budget i (frames_in frames₁ r₁.depth) fits ok in
+          let same : frames_in frames₁ r₁.depth ≡ frames_in frames₁ t.depth =
+          ap (frames_in frames₁) (sym (frames_length frames₁ r₁.depth) ∙ x.1.standing.laid.depth) in (
+            x.0,
+            subst (λ (vs : List Frame). LeadsTo file m budget cells₁ stack₁ r₁ i (frames_in frames₁ r₁.depth) cells₂ stack₂ t x.0 vs)
+                same x.1,
+            subst (λ (vs : List Frame). Rests file m budget cells₂ stack₂ t x.0 vs why) same x.2,
+          )
 
-      -- the frames that wait are those of the table, before and after
-      same_frames : {j : ℕ} → Standing file m cells₂ stack₂ t j (frames_in frames₁ r₁.depth)
-          → frames_in frames₁ r₁.depth ≡ frames_in frames₁ t.depth
-      same_frames on = ap (frames_in frames₁) (sym (frames_length frames₁ r₁.depth) ∙ on.laid.depth)
-
-      pub rested_now : Rested file index m cells₂ stack₂ frames₁ t
+      pub rested_now : Rested file index m cells₂ stack₂ frames₁ t why
       rested_now =
-          let x = pauses.leads r₁.left at₁ ws₁ (omega arith) stands₁ in
-          let e = same_frames x.1.standing in
+          let x = rests_there r₁.left at₁ (omega arith) stands₁ in
           record {
             indexed = begun.indexed;
             limits = limits₂;
-            rest = pauses.rest;
             budget = r₁.left;
             instruction = x.0;
-            standing = subst (λ (vs : List Frame). Standing file m cells₂ stack₂ t x.0 vs) e x.1.standing;
-            rests = subst (λ (vs : List Frame). Rests file m r₁.left cells₂ stack₂ t x.0 vs) e x.2;
+            standing = x.1.standing;
+            rests = x.2;
           }
 
-      module _ (stack₃ : List ℕ) (frames₃ : List Frame) (t₃ : Registers)
-          (turns_to : (cs : List ℕ) → Rested file index m cs stack₂ frames₁ t → Turned file m cs stack₂ frames₁ t stack₃ frames₃ t₃) where
-        turned : Turned file m cells₂ stack₂ frames₁ t stack₃ frames₃ t₃
+      module _ (stack₃ : List ℕ) (frames₃ : List Frame) (next : Result Registers End)
+          (turns_to : (cs : List ℕ) → Rested file index m cs stack₂ frames₁ t why
+          → Turned file m cs stack₂ frames₁ t why stack₃ frames₃ next) where
+        turned : Turned file m cells₂ stack₂ frames₁ t why stack₃ frames₃ next
         turned = turns_to cells₂ rested_now
 
-        pub turn_less : r₁.why ≡ 0 → turns t₃.why t₃.left < turns r₁.why r₁.left
-        turn_less e = turns_less r₁.why r₁.left t₃.why t₃.left e (λ z. omega (arith, turned.less z, pauses.fewer))
+        spared₃ : Spared m cells stack cells₂ stack₃
+        spared₃ =
+            spared_trans m cells stack cells₂ stack₂ cells₂ stack₃
+            (spared_trans m cells stack cells₁ stack₁ cells₂ stack₂ drove.spared pauses.spared)
+            (record { of_cells = cells_kept_refl m.cells cells₂; of_stack = turned.spared_stack })
 
-        pub drove_more : Drove file m cells stack frames r cells₂ stack₃ frames₃ t₃
-        drove_more = record {
-          spared = spared_trans m cells stack cells₂ stack₂ cells₂ stack₃
-              (spared_trans m cells stack cells₁ stack₁ cells₂ stack₂ drove.spared pauses.spared)
-              (record { of_cells = cells_kept_refl m.cells cells₂; of_stack = turned.spared_stack });
-          spared_frames = frames_kept_trans m.frames frames frames₁ frames₃ drove.spared_frames turned.spared_frames;
-          fewer = omega (arith, drove.fewer, pauses.fewer, turned.fewer);
-          over = turned.over;
+        spared_frames₃ : FramesKept m.frames frames frames₃
+        spared_frames₃ = frames_kept_trans m.frames frames frames₁ frames₃ drove.spared_frames turned.spared_frames
+
+        -- the run up to the rest, and what the rest gives way to
+        gives_there : (budget i : ℕ) → r.left ≤ budget → Standing file m cells stack r i (frames_in frames r.depth)
+            → (i' : ℕ)
+            × LeadsTo file m budget cells stack r i (frames_in frames r.depth) cells₂ stack₂ t i' (frames_in frames₁ t.depth)
+            × Gives file m budget cells₂ stack₂ t i' (frames_in frames₁ t.depth) stack₃ frames₃ next
+        gives_there budget i fits ok =
+            let x = drove.leads budget i fits ok in
+            let y = rests_there budget x.0 (omega (arith, drove.fewer)) x.1.standing in (
+              y.0,
+              leads_trans x.1 y.1,
+              turned.gives budget y.0 (omega (arith, drove.fewer, pauses.fewer)) y.1.standing y.2,
+            )
+
+      module _ (stack₃ : List ℕ) (frames₃ : List Frame) where
+        -- another frame is on top
+        pub turn_less : (next : Registers)
+            → ((cs : List ℕ) → Rested file index m cs stack₂ frames₁ t why
+            → Turned file m cs stack₂ frames₁ t why stack₃ frames₃ (Ok next))
+            → next.left < r₁.left
+        turn_less next turns_to = omega (arith, (turned stack₃ frames₃ (Ok next) turns_to).less, pauses.fewer)
+
+        pub drove_more : (next : Registers)
+            → ((cs : List ℕ) → Rested file index m cs stack₂ frames₁ t why
+            → Turned file m cs stack₂ frames₁ t why stack₃ frames₃ (Ok next))
+            → Drove file m cells stack frames r cells₂ stack₃ frames₃ next
+        drove_more next turns_to = record {
+          spared = spared₃ stack₃ frames₃ (Ok next) turns_to;
+          spared_frames = spared_frames₃ stack₃ frames₃ (Ok next) turns_to;
+          fewer = omega (arith, drove.fewer, turn_less next turns_to);
           leads = λ budget i fits ok.
-              let x = drove.leads budget i fits ok in
-              let y = pauses.leads budget x.0 ws₁ (omega (arith, drove.fewer)) x.1.standing in
-              let e = same_frames y.1.standing in
-              let here = subst (λ (vs : List Frame). LeadsTo file m budget cells₁ stack₁ r₁ x.0 ws₁ cells₂ stack₂ t y.0 vs) e
-              y.1 in
-              let z = turned.leads budget y.0 (omega (arith, drove.fewer, pauses.fewer)) here.standing
-              (subst (λ (vs : List Frame). Rests file m budget cells₂ stack₂ t y.0 vs) e y.2) in
-              (z.0, leads_trans (leads_trans x.1 here) z.1, z.2);
+              let x = gives_there stack₃ frames₃ (Ok next) turns_to budget i fits ok in
+              (x.2.0, leads_trans x.1 x.2.1);
+        }
+
+        -- the run is at its end
+        pub drove_ends : (end : End)
+            → ((cs : List ℕ) → Rested file index m cs stack₂ frames₁ t why
+            → Turned file m cs stack₂ frames₁ t why stack₃ frames₃ (Err end))
+            → Ends file m cells stack frames r cells₂ stack₃ frames₃ t end
+        drove_ends end turns_to = record {
+          spared = spared₃ stack₃ frames₃ (Err end) turns_to;
+          spared_frames = spared_frames₃ stack₃ frames₃ (Err end) turns_to;
+          fewer = omega (arith, drove.fewer, pauses.fewer);
+          ends = λ budget i fits ok.
+              let x = gives_there stack₃ frames₃ (Err end) turns_to budget i fits ok in
+              let y = leads_trans x.1 x.2.0 in (
+                x.0,
+                frames_in frames₃ t.depth,
+                record {
+                  standing = y.standing;
+                  answers = answered file m budget _ cells₂ stack₃ t x.0 (frames_in frames₃ t.depth) y.standing y.same end x.2.1;
+                },
+              );
         }

@@ -1,5 +1,5 @@
 -- How a run ends where its top frame rests for good: with the result, by stop, or with no step left.
-use Prim.Native.Nat.{ℕ, zero, suc, ◌+◌, ◌-◌, ◌%◌, ◌≤◌, ◌<◌}
+use Prim.Native.Nat.{ℕ, zero, suc, ◌+◌, ◌-◌, ◌%◌, ◌<◌}
 use mathlib.Core.Path.{◌≡◌, refl, sym, ap, ◌∙◌}
 use mathlib.Core.List.{List, [], ◌∷◌}
 use Rattle.std.specs.Prelude.{None, Some}
@@ -34,18 +34,15 @@ use Rattle.fetch.specs.Arities.{place}
 use Rattle.fetch.specs.Places.{offset_at}
 use Rattle.fetch.specs.Words.{WordThere}
 use Rattle.steps.specs.Stands.{waiting_on, top_on, state_in, Standing, answers_on}
-use Rattle.steps.specs.Steps.{top_reference, Rests}
-use Rattle.machine.specs.Turns.{Settles, settles_other, settles_above, settles_spent, settles_result}
-use Rattle.machine.specs.Runs.{EndsAs}
+use Rattle.steps.specs.Steps.{top_reference}
+use Rattle.machine.specs.Turns.{Over, Settles, settles_above, settles_spent, settles_result}
+use Rattle.machine.specs.Runs.{Answers}
+use Rattle.machine.specs.declared.run.End.{End}
+use Rattle.machine.specs.declared.run.End.TheVariants as ends
 use Rattle.steps.specs.declared.state.Registers.{Registers}
 use Rattle.steps.proofs.ContinueLaws.{heights_on, ended_on, spent_on, goes_on_lem, step_is, not_ended}
 use Rattle.steps.proofs.OneLaws.{at_load, at_build, at_call, at_branch, at_return, at_stop}
 use Rattle.steps.proofs.StandLaws.{after_none, lives}
-use Rattle.steps.proofs.StepLaws.{halted}
-
-no_frames : (ws : List Frame) → length ws ≡ 0 → ws ≡ []
-no_frames [] e = refl
-no_frames (w ∷ ws) e = absurd (omega (arith, e))
 
 -- above waiting frames nothing ends
 waiting_some : (s : Program) (heap : Heap) (fr w : HeapFrame) (others : List HeapFrame) → end_on s heap (fr ∷ w ∷ others) ≡ None
@@ -187,72 +184,35 @@ module _ (file : List ℕ) (m : Limits) (budget : ℕ) (cells stack : List ℕ) 
 
 ---- The end of a run
 
-module _ (file : List ℕ) (parsed : Parsed file) (m : Limits) (budget : ℕ) (said : Outcome) (cells stack : List ℕ)
-    (r : Registers) (i : ℕ) (ws : List Frame) (ok : Standing file m cells stack r i ws) (depth : length ws ≡ r.depth)
-    (fits : r.left ≤ budget) (rests : Rests file m budget cells stack r i ws) (over : 2 < r.why)
-    (same : said ≡ answers_on (program_in file) m budget cells stack r i ws) where
+-- a frame with no step left has the result, or the run is refused there
+pub settled_over : (file : List ℕ) → Parsed file → (m : Limits) (budget : ℕ) (cells stack : List ℕ) (r : Registers) (i : ℕ)
+    (ws : List Frame) → Standing file m cells stack r i ws → length ws ≡ r.depth → r.left ≡ 0 → {end : End}
+    → Settles (payload file) r end → Over file m budget cells stack r i ws end
+settled_over file parsed m budget cells stack r i ws ok depth none_left (settles_above n) =
+    spent_ends file m budget cells stack r i ws ok (waiting_on_lem file m budget cells stack r i ws ok (λ z. n (sym depth ∙ z)))
+    none_left
+settled_over file parsed m budget cells stack r i ws ok depth none_left (settles_spent word n) =
+    spent_ends file m budget cells stack r i ws ok (no_return file m budget cells stack r i ws ok parsed word n) none_left
+settled_over file parsed m budget cells stack r i ws ok depth none_left (settles_result d word five) =
+    (depth ∙ d, at_return file parsed m cells stack r i ws ok word five)
+
+module _ (file : List ℕ) (m : Limits) (budget : ℕ) (said : Outcome) (cells stack : List ℕ) (r : Registers) (i : ℕ) where
   -- the result on top of the stack
-  with_result : length ws ≡ 0 → current (program_in file) (place r.function i) ≡ Some Return
-      → (r.base < r.top)
-      × (length (written (value_of (heap_in (arity (program_in file)) cells r.used) (top_reference stack r))) < 4294967296)
-      × (said ≡ answer (finished (written (value_of (heap_in (arity (program_in file)) cells r.used) (top_reference stack r))))
-      (budget - r.left))
-  with_result none-wait cur = go ws (no_frames ws none-wait) ok same
-    where
-      go : (vs : List Frame) → vs ≡ [] → Standing file m cells stack r i vs
-          → said ≡ answers_on (program_in file) m budget cells stack r i vs
-          → (r.base < r.top) × (length (written (value_of (heap_in (arity (program_in file)) cells r.used) (top_reference stack r))) <
-          4294967296)
-          × (said ≡ answer (finished (written (value_of (heap_in (arity (program_in file)) cells r.used) (top_reference stack r))))
-          (budget - r.left))
-      go [] e on q = (
-        result_deep file m cells stack r i on cur,
-        result_short file m cells stack r i on cur,
-        q ∙ ended_on (program_in file) (tables m) r.left (budget - r.left) (state_in (program_in file) cells stack r i [])
-            (result_ends file m cells stack r i on cur),
-      )
-      go (v ∷ vs) e on q = absurd (omega (arith, ap length e))
+  with_result : (ws : List Frame) → length ws ≡ 0 → Standing file m cells stack r i ws
+      → said ≡ answers_on (program_in file) m budget cells stack r i ws → current (program_in file) (place r.function i) ≡ Some Return
+      → Answers file budget said cells stack r i ends.Result
+  with_result [] e ok same cur = (
+    result_deep file m cells stack r i ok cur,
+    result_short file m cells stack r i ok cur,
+    same ∙ ended_on (program_in file) (tables m) r.left (budget - r.left) (state_in (program_in file) cells stack r i [])
+        (result_ends file m cells stack r i ok cur),
+  )
+  with_result (w ∷ ws) e ok same cur = absurd (omega (arith, e))
 
-  -- one of 14 to 17, where 14 is said by the law for it
-  numbered : (r.why ≡ 14 → said ≡ answer (refused_with (refusal 14 r.function i)) (budget - r.left)) → (r.why ≡ 3 → ⊥)
-      → (r.why ≡ 4 → ⊥)
-      → (14 ≤ r.why) × (r.why ≤ 17) × (said ≡ answer (refused_with (refusal r.why r.function i)) (budget - r.left))
-  numbered spent n₃ n₄ = go (eqb r.why 14) refl
-    where
-      go : (t : Bool) → eqb r.why 14 ≡ t
-          → (14 ≤ r.why) × (r.why ≤ 17) × (said ≡ answer (refused_with (refusal r.why r.function i)) (budget - r.left))
-      go true e =
-          let q = eqb-true r.why 14 e in (
-            omega (arith, q),
-            omega (arith, q),
-            spent q ∙ ap (λ (k : ℕ). answer (refused_with (refusal k r.function i)) (budget - r.left)) (sym q),
-          )
-      go false e =
-          let x = rests.short (omega arith) (eqb-false r.why 14 e) in
-          (omega (arith, x.0), x.1, same ∙ x.2)
-
-  ends_so : (r.why ≡ 14 → said ≡ answer (refused_with (refusal 14 r.function i)) (budget - r.left))
-      → EndsAs file m budget said cells stack r i ws
-  ends_so spent = record {
-    standing = ok;
-    result = λ e. with_result (rests.result e).0 (rests.result e).1;
-    stops = λ e. ((rests.stops e).0, same ∙ stop_ends file m budget cells stack r i ws ok (rests.stops e).1 (rests.stops e).0);
-    short = numbered spent;
-  }
-
-  pub settled_ends : {t : Registers} → Settles (payload file) r t → EndsAs file m budget said cells stack t i ws
-  settled_ends (settles_other n) = ends_so (λ e. absurd (n e))
-  settled_ends (settles_above n) =
-      ends_so (λ e. same ∙ spent_ends file m budget cells stack r i ws ok (waiting_on_lem file m budget cells stack r i ws ok
-      (λ z. n (sym depth ∙ z))) (rests.spent e))
-  settled_ends (settles_spent d word n) =
-      ends_so (λ e. same ∙ spent_ends file m budget cells stack r i ws ok (no_return file m budget cells stack r i ws ok parsed word n)
-      (rests.spent e))
-  settled_ends (settles_result e d word five) =
-      let cur = at_return file parsed m cells stack r i ws ok word five in
-      record {
-        standing = (halted file m budget cells stack r i ws fits ok r.callee 3).standing;
-        result = λ _. with_result (depth ∙ d) cur;
-        stops = λ z. absurd (omega arith);
-        short = λ a b. absurd (a refl);
-      }
+  pub answered : (ws : List Frame) → Standing file m cells stack r i ws
+      → said ≡ answers_on (program_in file) m budget cells stack r i ws → (end : End) → Over file m budget cells stack r i ws end
+      → Answers file budget said cells stack r i end
+  answered ws ok same ends.Result (alone, cur) = with_result ws alone ok same cur
+  answered ws ok same ends.Stops (left, cur) = (left, same ∙ stop_ends file m budget cells stack r i ws ok cur left)
+  answered ws ok same ends.Spent refused = same ∙ refused
+  answered ws ok same (ends.OutOf table) refused = same ∙ refused

@@ -6,9 +6,9 @@ ghost use Rattle.fetch.specs.Indexed.{Indexed, function_arity, code_at};
 ghost use Rattle.fetch.specs.Places.{offset_at, Inside};
 ghost use Rattle.machine.specs.Turns.{waiting_for, Enters, Leaves};
 
-use fetch::{code_at, function_arity, number_at, place_behind};
-use steps::{NO_FRAMES, NO_STACK, Registers, paused};
-use store::{Frame, Limits, copy_within, wide16};
+use fetch::{Index, code_at, function_arity, number_at, place_behind};
+use steps::{Registers, Table};
+use store::{Frame, Limits, copy_within};
 
 // The top frame as it waits at a call.
 pub fn waiting(r: Registers) -> Frame
@@ -23,33 +23,32 @@ pub fn waiting(r: Registers) -> Frame
     }
 }
 
-// Call: above the frame comes the function that it calls, with copies of its arguments.
+// Call: above the frame comes function g, with copies of its arguments.
 pub fn enter(
     file: &[u8],
-    index: &[u32; 64],
+    index: &Index,
     stack: &mut [u16],
     m: Limits,
     r: Registers,
-) -> Registers
-    requires { (Indexed file.now index.now × (r.callee < byte_at (payload file.now) 3)
-        × (function_arity file.now r.callee ≤ r.top))
+    g: usize,
+) -> Result<Registers, Table>
+    requires { (Indexed file.now index.now × (g < byte_at (payload file.now) 3) × (function_arity file.now g ≤ r.top))
         × ((r.top ≤ m.stack) × (m.stack ≤ length stack.old) × (m.stack ≤ 65535) × (r.depth < 65535) × (0 < r.left)) }
-    ensures { Enters m stack.old r (function_arity file.now r.callee)
-        (code_at index.now r.callee) stack.new result }
+    ensures { Enters m stack.old r g (function_arity file.now g) (code_at index.now g)
+        stack.new result }
 {
-    let g = r.callee;
     let n = function_arity(file, index, g);
     let top = r.top;
     let depth = r.depth + 1;
     if depth >= m.frames {
-        return paused(r, NO_FRAMES);
+        return Err(Table::Frames);
     }
     if top + n > m.stack {
-        return paused(r, NO_STACK);
+        return Err(Table::Stack);
     }
     copy_within(stack, top - n, top, n);
     let code = code_at(index, g);
-    Registers {
+    Ok(Registers {
         function: g,
         code,
         at: code,
@@ -58,13 +57,11 @@ pub fn enter(
         used: r.used,
         depth,
         left: r.left - 1,
-        callee: 0,
-        why: 0,
-    }
+    })
 }
 
 // Return: the waiting frame goes on behind its call, and the call's arguments give way to the top value.
-pub fn leave(file: &[u8], index: &[u32; 64], stack: &mut [u16], r: Registers, w: Frame) -> Registers
+pub fn leave(file: &[u8], index: &Index, stack: &mut [u16], r: Registers, w: Frame) -> Registers
     requires { (Indexed file.now index.now × (r.function < byte_at (payload file.now) 3)
         × (function_arity file.now r.function ≤ r.base) × (r.base < r.top) × (r.top ≤ length stack.old) × (r.top ≤ 65535))
         × ((w.function < 32) × (w.instruction ≤ 256) × (w.height ≤ r.base) × Inside (code_at index.now w.function)
@@ -75,18 +72,16 @@ pub fn leave(file: &[u8], index: &[u32; 64], stack: &mut [u16], r: Registers, w:
     let n = function_arity(file, index, r.function);
     let under = r.base - n;
     stack[under] = stack[r.top - 1];
-    let function = wide16(w.function);
+    let function = usize::from(w.function);
     let code = code_at(index, function);
     Registers {
         function,
         code,
-        at: place_behind(code, wide16(w.instruction)),
-        base: r.base - wide16(w.height),
+        at: place_behind(code, usize::from(w.instruction)),
+        base: r.base - usize::from(w.height),
         top: under + 1,
         used: r.used,
         depth: r.depth - 1,
         left: r.left - 1,
-        callee: 0,
-        why: 0,
     }
 }

@@ -4,4 +4,4 @@
 mod frames; // frames.rt: call and return
 mod run; // run.rt: the run, until it ends
 
-pub use run::drive;
+pub use run::{End, drive};

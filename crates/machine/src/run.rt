@@ -1,107 +1,96 @@
 // The run: the top frame until it rests, then a call, a return or an end, and so on.
-ghost use Rattle.std.specs.Prelude.{◌≡◌, true, false, List, ℕ, ◌+◌, ◌-◌, ◌≤◌, length};
+ghost use Rattle.std.specs.Prelude.{◌≡◌, List, ℕ, ◌+◌, ◌≤◌, length};
 ghost use Rattle.rules.specs.Container.{payload};
 ghost use Rattle.rules.specs.Established.{Verified};
 ghost use Rattle.fetch.specs.Places.{offset_at, Inside};
-ghost use Rattle.machine.specs.Turns.{Rested, Over, Turned, Settles};
+ghost use Rattle.machine.specs.Turns.{Rested, Turned, Settles};
 ghost use Rattle.machine.specs.Runs.{Begun, Ends};
 
 use crate::frames::{enter, leave, waiting};
-use fetch::fetch;
-use steps::{CALLS, GOES, NO_STEPS, RESULT, RETURNS, Registers, paused, straight};
+use fetch::{Index, fetch};
+use steps::{Registers, Rest, Table, straight};
 use store::{Frame, Limits, frame_at, put_frame};
 
-// Whether it rests at a return to a frame that waits.
-fn goes_back(r: Registers) -> bool
-    ensures { (result ≡ true → (r.why ≡ 2) × (r.depth ≡ 0 → ⊥)) × (result ≡ false → r.why ≡ 2 → r.depth ≡ 0) }
-{
-    if r.why != RETURNS {
-        return false;
-    }
-    if r.depth == 0 {
-        return false;
-    }
-    true
+// How a run ends: with its result on top of the stack, by the program's own stop, or since no step or no room is left.
+#[derive(Clone, Copy)]
+pub enum End {
+    Result,
+    Stops,
+    Spent,
+    OutOf(Table),
 }
 
-// The place of the uppermost frame that waits.
-fn below(r: Registers) -> usize
-    requires { r.depth ≡ 0 → ⊥ }
-    ensures { result ≡ r.depth - 1 }
+// No step is left: a return in the only frame is still the result.
+fn settled(file: &[u8], r: Registers) -> End
+    requires { Verified file.now × Inside r.at × (offset_at r.at + 4 ≤ length (payload file.now)) }
+    ensures { Settles (payload file.now) r result }
 {
-    r.depth - 1
-}
-
-// A return with no frame to go back to is the result; any other end stays.
-fn over(r: Registers) -> Registers
-    ensures { Over r result }
-{
-    if r.why != RETURNS {
-        return r;
+    if r.depth != 0 {
+        return End::Spent;
     }
-    paused(r, RESULT)
+    let f = fetch(file, r.at);
+    if f.word % 256 == 5 {
+        End::Result
+    } else {
+        End::Spent
+    }
 }
 
-// A frame that rests at a call or a return gives way to another.
+// A frame that rests at a call or a return gives way to another, or the run ends there.
 fn turn(
     file: &[u8],
-    index: &[u32; 64],
+    index: &Index,
     stack: &mut [u16],
     frames: &mut [Frame],
     m: Limits,
     r: Registers,
-) -> Registers
-    requires { (cells : List ℕ) × Rested file.now index.now m cells stack.old frames.old r }
+    why: Rest,
+) -> Result<Registers, End>
+    requires { (cells : List ℕ) × Rested file.now index.now m cells stack.old frames.old r why }
     ensures { (cells : List ℕ)
-        → Rested file.now index.now m cells stack.old frames.old r
-        → Turned file.now m cells stack.old frames.old r stack.new frames.new result }
+        → Rested file.now index.now m cells stack.old frames.old r why
+        → Turned file.now m cells stack.old frames.old r why stack.new frames.new result }
 {
-    if r.why == CALLS {
-        put_frame(frames, r.depth, waiting(r));
-        return enter(file, index, stack, m, r);
+    match why {
+        Rest::Calls(g) => {
+            put_frame(frames, r.depth, waiting(r));
+            match enter(file, index, stack, m, r, g) {
+                Ok(callee) => Ok(callee),
+                Err(table) => Err(End::OutOf(table)),
+            }
+        }
+        Rest::Returns => {
+            if r.depth == 0 {
+                return Err(End::Result);
+            }
+            Ok(leave(file, index, stack, r, frame_at(frames, r.depth - 1)))
+        }
+        Rest::Stops => Err(End::Stops),
+        Rest::Spent => Err(settled(file, r)),
+        Rest::OutOf(table) => Err(End::OutOf(table)),
     }
-    if goes_back(r) {
-        return leave(file, index, stack, r, frame_at(frames, below(r)));
-    }
-    over(r)
 }
 
-// No step is left: a return in the only frame is still the result.
-fn settled(file: &[u8], r: Registers) -> Registers
-    requires { Verified file.now × Inside r.at × (offset_at r.at + 4 ≤ length (payload file.now)) }
-    ensures { Settles (payload file.now) r result }
-{
-    if r.why != NO_STEPS {
-        return r;
-    }
-    if r.depth != 0 {
-        return r;
-    }
-    let f = fetch(file, r.at);
-    if f.word % 256 != 5 {
-        return r;
-    }
-    paused(r, RESULT)
-}
-
-// For the crates above: the run from a state on.
+// For the crates above: the run from a state on, with its last frame and how it ends.
 pub fn drive(
     file: &[u8],
-    index: &[u32; 64],
+    index: &Index,
     cells: &mut [u16],
     stack: &mut [u16],
     frames: &mut [Frame],
     m: Limits,
     start: Registers,
-) -> Registers
+) -> (Registers, End)
     requires { Begun file.now index.now m cells.old stack.old frames.old start }
     ensures { Ends file.now m cells.old stack.old frames.old start cells.new
-        stack.new frames.new result }
+        stack.new frames.new result.0 result.1 }
 {
     let mut r = start;
-    while r.why == GOES {
-        let t = straight(file, cells, stack, m, r);
-        r = turn(file, index, stack, frames, m, t);
+    loop {
+        let (t, why) = straight(file, cells, stack, m, r);
+        match turn(file, index, stack, frames, m, t, why) {
+            Ok(next) => r = next,
+            Err(end) => return (t, end),
+        }
     }
-    settled(file, r)
 }

@@ -9,19 +9,19 @@ function_arity-n-requires c =
     (c.requires.0.0, c.requires.0.1)
 
 pub returns-then-depth-m : goal.returns-then-depth-m
-returns-then-depth-m c = rw c.paused.ensures (enter_deep (omega arith))
+returns-then-depth-m c = enter_deep (omega arith)
 
 pub returns-then-top-n : goal.returns-then-top-n
-returns-then-top-n c = rw c.paused-then-top-n.ensures (enter_full (omega arith) (omega arith))
+returns-then-top-n c = enter_full (omega arith) (omega arith)
 
 pub copy_within-requires : goal.copy_within-requires
 copy_within-requires c =
-    let small = function_small c.requires.0.0.parsed c.args.r.callee c.requires.0.1 in
+    let small = function_small c.requires.0.0.parsed c.args.g c.requires.0.1 in
     (omega arith, omega arith, omega (arith, small))
 
 pub code_at-code-requires : goal.code_at-code-requires
 code_at-code-requires c =
-    (function_small c.requires.0.0.parsed c.args.r.callee c.requires.0.1).0
+    (function_small c.requires.0.0.parsed c.args.g c.requires.0.1).0
 
 pub returns : goal.returns
 returns c =

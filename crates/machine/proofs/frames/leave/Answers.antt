@@ -9,8 +9,8 @@ function_arity-n-requires c =
 
 pub place_behind-requires : goal.place_behind-requires
 place_behind-requires c =
-    rw (c.code_at-code.ensures, c.wide16-function.ensures.0)
-    (c.requires.1.3, c.requires.1.4, omega (arith, c.wide16.ensures.0, c.requires.1.1))
+    rw (c.code_at-code.ensures, c.from-function.ensures)
+    (c.requires.1.3, c.requires.1.4, omega (arith, c.from.ensures, c.requires.1.1))
 
 pub overflow_sub-result-3 : goal.overflow_sub-result-3
 overflow_sub-result-3 c = c.requires.2.1
@@ -18,8 +18,8 @@ overflow_sub-result-3 c = c.requires.2.1
 pub returns : goal.returns
 returns c =
     let code = c.code_at-code.ensures in
-    let function = c.wide16-function.ensures.0 in
+    let function = c.from-function.ensures in
     let behind = c.place_behind.ensures in
     let arity = c.function_arity-n.ensures in
-    rw (code, function, c.wide16-2.ensures.0, arity)
-    (leave_goes (rw (code, function, c.wide16.ensures.0) at behind.0) behind.1)
+    rw (code, function, c.from-2.ensures, arity)
+    (leave_goes (rw (code, function, c.from.ensures) at behind.0) behind.1)

@@ -1,6 +1,7 @@
 -- What holds of each way is a law of `TurnLaws`: at a call the frame that rests goes into the table, at a return the one below comes back.
 use Rattle.machine.proofs.TurnLaws.{waiting_ready, waiting_small, put_ready, enter_ready, enter_room, call_turned, frame_ready}
-use Rattle.machine.proofs.TurnLaws.{leave_ready, leave_waits, leave_left, leave_turned, over_turned}
+use Rattle.machine.proofs.TurnLaws.{leave_ready, leave_waits, leave_left, leave_turned, settled_ready, spent_turned}
+use Rattle.machine.proofs.TurnLaws.{result_turned}
 use Rattle.machine.proofs.run.turn.Goals as goal
 
 pub waiting-requires : goal.waiting-requires
@@ -12,31 +13,40 @@ put_frame-requires c = put_ready _ _ _ _ _ _ _ c.requires.1
 
 pub enter-requires : goal.enter-requires
 enter-requires c =
-    let calls = c.if-r-eq-CALLS.true in
-    (enter_ready _ _ _ _ _ _ _ c.requires.1 calls, enter_room _ _ _ _ _ _ _ c.requires.1 calls)
-
-pub returns-then-r-eq-CALLS : goal.returns-then-r-eq-CALLS
-returns-then-r-eq-CALLS c = λ cells rested.
-    call_turned _ _ _ _ _ _ _ rested c.if-r-eq-CALLS.true _ c.waiting.ensures _ c.put_frame.ensures c.enter.ensures
+    let rested = rw c.in-Calls.is at c.requires.1 in
+    (enter_ready _ _ _ _ _ _ _ rested, enter_room _ _ _ _ _ _ _ rested)
 
 pub frame_at-requires : goal.frame_at-requires
-frame_at-requires c = rw c.below.ensures (frame_ready _ _ _ _ _ _ _ c.requires.1)
+frame_at-requires c = frame_ready _ _ _ _ _ _ _ c.requires.1
 
 pub leave-requires : goal.leave-requires
 leave-requires c =
-    let back = c.goes_back.ensures.0 c.if-goes_back.true in
-    let read = rw c.below.ensures at c.frame_at.ensures in (
-      leave_ready _ _ _ _ _ _ _ c.requires.1 back.0 back.1,
-      leave_waits _ _ _ _ _ _ _ c.requires.1 back.0 back.1 _ read,
-      leave_left _ _ _ _ _ _ _ c.requires.1 back.0 back.1,
+    let rested = rw c.in-Returns.is at c.requires.1 in
+    let waits = c.if-r-eq0.false in (
+      leave_ready _ _ _ _ _ _ _ rested waits,
+      leave_waits _ _ _ _ _ _ _ rested waits _ c.frame_at.ensures,
+      leave_left _ _ _ _ _ _ _ rested waits,
     )
 
-pub returns-then-goes_back : goal.returns-then-goes_back
-returns-then-goes_back c =
-    let back = c.goes_back.ensures.0 c.if-goes_back.true in
-    let read = rw c.below.ensures at c.frame_at.ensures in
-    λ cells rested. leave_turned _ _ _ _ _ _ _ rested back.0 back.1 _ read c.leave.ensures
+pub returns-then-r-eq0 : goal.returns-then-r-eq0
+returns-then-r-eq0 c = λ cells rested. rw c.in-Returns.is (result_turned _ _ _ _ _ _ c.if-r-eq0.true)
 
-pub returns : goal.returns
-returns c = λ cells rested.
-    over_turned _ _ _ _ _ _ _ rested c.if-r-eq-CALLS.false (c.goes_back.ensures.1 c.if-goes_back.false) c.over.ensures
+pub returns-else-r-eq0 : goal.returns-else-r-eq0
+returns-else-r-eq0 c = λ cells rested.
+    rw c.in-Returns.is (leave_turned _ _ _ _ _ _ _ (rw c.in-Returns.is at rested) c.if-r-eq0.false _ c.frame_at.ensures c.leave.ensures)
+
+pub settled-requires : goal.settled-requires
+settled-requires c = settled_ready _ _ _ _ _ _ _ c.requires.1
+
+pub returns-in-Ok : goal.returns-in-Ok
+returns-in-Ok c = λ cells rested.
+    rw c.in-Calls.is
+    (call_turned _ _ _ _ _ _ _ (rw c.in-Calls.is at rested) _ c.waiting.ensures _ c.put_frame.ensures c.in-Ok.ensures)
+
+pub returns-in-Err : goal.returns-in-Err
+returns-in-Err c = λ cells rested.
+    rw c.in-Calls.is
+    (call_turned _ _ _ _ _ _ _ (rw c.in-Calls.is at rested) _ c.waiting.ensures _ c.put_frame.ensures c.in-Err.ensures)
+
+pub returns-in-Spent : goal.returns-in-Spent
+returns-in-Spent c = λ cells rested. rw c.in-Spent.is (spent_turned _ _ _ _ _ _ rested.indexed.parsed c.settled.ensures)
