@@ -4,7 +4,7 @@ use mathlib.Core.List.{List, [], ◌∷◌}
 use mathlib.Core.Bool.{Bool, true, false, ◌&&◌}
 use Prim.Native.Nat.{ℕ, zero, suc, ◌+◌, ◌*◌, ◌/◌, ◌%◌, ◌≤◌, ◌<◌}
 use native.Mathlib.Omega.{arith}
-use lib.ListN.{length, take, drop, length-drop}
+use lib.ListN.{length, take, drop, length-take, length-drop}
 use lib.Seq.{drop-drop}
 use Rattle.rules.specs.Base.{is_zero, all}
 use Rattle.rules.specs.Lines.{letters_right, entries_of, entries, table_right}
@@ -77,10 +77,13 @@ module _ (table : List ℕ) (right : table_right table ≡ true) where
       rw e (sym (letters_next table (4 * k) there (letters_here table (4 * k) there before)) ∙ before)
 
   -- every entry begins with three capitals
-  pub entry_letters : (at : ℕ) → at % 4 ≡ 0 → at + 4 ≤ length table → letters_right (drop at table) ≡ true
+  entry_letters : (at : ℕ) → at % 4 ≡ 0 → at + 4 ≤ length table → letters_right (drop at table) ≡ true
   entry_letters at whole h =
       let e : 4 * (at / 4) ≡ at = omega (arith, whole) in
       letters_here table at h (rw e at (from_entry (at / 4) (omega arith)))
 
-  pub entry_there : (at : ℕ) → at % 4 ≡ 0 → at + 4 ≤ length table → (at + 3 ≤ length table) × (letters_right (drop at table) ≡ true)
-  entry_there at whole h = (omega arith, entry_letters at whole h)
+  -- and so do its w bytes
+  pub entry_there : (at w : ℕ) → w ≡ 4 → at % 4 ≡ 0 → at + 4 ≤ length table
+      → (3 ≤ length (take w (drop at table))) × (letters_right (take w (drop at table)) ≡ true)
+  entry_there at w four whole h =
+      rw four (simp (length-take, length-drop) (omega arith), front_letters (drop at table) ∙ entry_letters at whole h)

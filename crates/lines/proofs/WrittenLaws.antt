@@ -2,17 +2,19 @@
 use mathlib.Core.Path.{◌≡◌, refl, sym, ◌∙◌}
 use mathlib.Core.List.{List, [], ◌∷◌}
 use mathlib.Core.Bool.{Bool, true, false, not, ◌&&◌}
-use Prim.Native.Nat.{ℕ, zero, suc, ◌+◌, ◌*◌, ◌/◌, ◌-◌, ◌≤◌, ◌<◌}
+use Prim.Native.Nat.{ℕ, zero, suc, ◌+◌, ◌*◌, ◌/◌, ◌≤◌, ◌<◌}
 use native.Mathlib.Omega.{arith}
-use lib.ListN.{length, drop, get_or, set, length-set}
+use lib.ListN.{length, take, drop, get_or, set}
 use lib.Dec.{eqb}
 use borrow.Author.Tests.{le-leb, lt-leb, ne_eqb}
 use Rattle.rules.specs.Base.{Refusal, refusal, found, refused, ◌>>=◌, require}
-use Rattle.rules.specs.Lines.{entries, table_right, text_lines, codes, list_of, in_room, lines_of}
-use Rattle.rules.proofs.ListLaws.{eqb_iff}
+use Rattle.rules.specs.Lines.{entries, table_right, text_lines, code, codes, list_of, in_room, lines_of}
+use Rattle.std.specs.Prelude.{Some}
+use Rattle.rules.proofs.ListLaws.{eqb_iff, some_inj}
 use Rattle.rules.specs.Memory.{front_written}
 use Rattle.rules.proofs.WriteLaws.{Pasted, pasted_start, pasted_next, pasted_end, front_start}
-use Rattle.lines.specs.Marks.{number, Scanned}
+use Rattle.lines.specs.Marks.{listed}
+use Rattle.lines.proofs.ScanLaws.{Scanned, scanned}
 
 module _ (cons nil : ℕ) where
   pub list_length : (cs : List ℕ) → length (list_of cons nil cs) ≡ 2 * length cs + 1
@@ -58,42 +60,28 @@ module _ (cons nil : ℕ) where
 ---- The loop that writes them
 
 -- of the lines i are written, whatever their codes are
-pub record Writing (text marks : List ℕ) (cons nil : ℕ) (out₀ : List ℕ) (i : ℕ) (out : List ℕ) : Type 0 where
-  pub few : i ≤ length text / 4
-  pub same : length out ≡ length out₀
-  pub codes : (cs : List ℕ) → Scanned text marks cs → Pasted out₀ 0 (list_of cons nil cs) (2 * i) out
+abbrev pub Writing : List (List ℕ) → List ℕ → ℕ → ℕ → List ℕ → ℕ → List ℕ → Type 0
+Writing es text cons nil out₀ i out = (cs : List ℕ) → codes es 1 (text_lines text) ≡ found cs → Pasted out₀ 0 (list_of cons nil cs) (2 * i) out
 
-module _ (text marks : List ℕ) (cons nil : ℕ) (out₀ : List ℕ) (room : 2 * (length text / 4) + 1 ≤ length out₀) where
-  pub writing_start : Writing text marks cons nil out₀ 0 out₀
-  writing_start =
-      record {
-        few = omega arith;
-        same = refl;
-        codes = λ cs s. pasted_start refl (let e = list_length cons nil cs in omega (arith, e, s.long, room));
-      }
+module _ (es : List (List ℕ)) (text : List ℕ) (cons nil : ℕ) (out₀ : List ℕ) where
+  pub writing_start : 2 * (length text / 4) + 1 ≤ length out₀ → Writing es text cons nil out₀ 0 out₀
+  writing_start room cs e = pasted_start refl (let l = list_length cons nil cs in omega (arith, l, (scanned es text e).long, room))
 
-  module _ (i : ℕ) {out : List ℕ} (w : Writing text marks cons nil out₀ i out) where
-    -- the mark of a line is one more than its code
-    value : {v : ℕ} (cs : List ℕ) → Scanned text marks cs → i < length text / 4 → v ≡ get_or marks (number (drop (4 * i) text)) 0 - 1
-        → v ≡ get_or cs i 0
-    value cs s h e = let c = s.coded i (omega (arith, s.long)) in omega (arith, e, c)
+  module _ {i : ℕ} {out : List ℕ} (w : Writing es text cons nil out₀ i out) where
+    pub writing_next : {v : ℕ} → i < length text / 4 → code es (take 4 (drop (4 * i) text)) ≡ Some v
+        → Writing es text cons nil out₀ (i + 1) (set (set out (2 * i) cons) (2 * i + 1) v)
+    writing_next h is cs e =
+        let s = scanned es text e in
+        let there : i < length cs = omega (arith, s.long) in
+        list_next cons nil cs i there (some_inj (sym is ∙ s.coded i there)) (w cs e)
 
-    pub writing_next : {v : ℕ} → i < length text / 4 → v ≡ get_or marks (number (drop (4 * i) text)) 0 - 1
-        → Writing text marks cons nil out₀ (i + 1) (set (set out (2 * i) cons) (2 * i + 1) v)
-    writing_next {v} h e =
-        record {
-          few = omega arith;
-          same = length-set (set out (2 * i) cons) (2 * i + 1) v ∙ length-set out (2 * i) cons ∙ w.same;
-          codes = λ cs s. list_next cons nil cs i (omega (arith, s.long)) (value cs s h e) (w.codes cs s);
-        }
-
-    pub writing_end : length text / 4 ≤ i → (cs : List ℕ) → Scanned text marks cs
+    pub writing_end : i ≡ length text / 4 → (cs : List ℕ) → codes es 1 (text_lines text) ≡ found cs
         → set out (2 * i) nil ≡ front_written (list_of cons nil cs) out₀
-    writing_end h cs s = list_end cons nil cs i (omega (arith, w.few, s.long)) (w.codes cs s)
+    writing_end h cs e = list_end cons nil cs i (omega (arith, (scanned es text e).long)) (w cs e)
 
 ---- The answer
 
-module _ (text marks : List ℕ) (cons nil : ℕ) (cs : List ℕ) (s : Scanned text marks cs) where
+module _ {es : List (List ℕ)} {text : List ℕ} (cons nil : ℕ) {cs : List ℕ} (s : Scanned es text cs) where
   pub list_needed : length (list_of cons nil cs) ≡ 2 * (length text / 4) + 1
   list_needed = let e = list_length cons nil cs in omega (arith, e, s.long)
 
@@ -128,7 +116,10 @@ module _ (text table : List ℕ) (cons nil room : ℕ) where
     unfolding lines_of
     lines_refused h = rw (right, ne_eqb cons nil apart, h)
 
+    pub lines_listed : lines_of text table cons nil room ≡ listed (entries table) text cons nil room
+    unfolding lines_of
+    lines_listed = rw (right, ne_eqb cons nil apart)
+
     pub lines_found : {cs : List ℕ} → codes (entries table) 1 (text_lines text) ≡ found cs
         → lines_of text table cons nil room ≡ in_room (list_of cons nil cs) room
-    unfolding lines_of
-    lines_found h = rw (right, ne_eqb cons nil apart, h)
+    lines_found h = lines_listed ∙ rw h

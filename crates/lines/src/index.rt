@@ -1,40 +1,58 @@
-// The table by its letters: a mark for each three capital letters, which is 0 where no entry has them, and else one more than the
-// constructor of the first entry that has.
-ghost use Rattle.std.specs.Prelude.{◌≡◌, true, ◌+◌, ◌≤◌, ◌<◌, length, drop, get_or};
-ghost use Rattle.rules.specs.Lines.{letters_right, entries, table_right};
+// The table by its letters.
+ghost use Rattle.std.specs.Prelude.{◌≡◌, true, Some, IsSome, ◌≤◌, ◌<◌, length, take};
+ghost use Rattle.rules.specs.Lines.{letters_right, entries, table_right, code as code_of};
 ghost use Rattle.lines.specs.Marks.{number as number_of, Marked};
 
-// The number of three capital letters at a place: AAA has 0 and ZZZ has 17,575.
-pub fn number(bytes: &[u8], at: usize) -> usize
-    requires { (at + 3 ≤ length bytes.now) × (letters_right (drop at bytes.now) ≡ true) }
-    ensures { (result ≡ number_of (drop at bytes.now)) × (result < 17576) }
+use crate::table::letters;
+
+// A table, and for each three capital letters the constructor of the first entry that has them.
+#[derive(Drop)]
+pub struct Index<'a> {
+    table: &'a [u8],
+    marks: [Option<u8>; 17576],
+    pub ghost marked: { Marked (entries table.now) marks },
+}
+
+// The number of the three capital letters that a text begins with: AAA has 0 and ZZZ has 17,575.
+fn number(text: &[u8]) -> usize
+    requires { (3 ≤ length text.now) × (letters_right text.now ≡ true) }
+    ensures { (result ≡ number_of text.now) × (result < 17576) }
 {
-    let first = (bytes[at] - 65) as usize;
-    let second = (bytes[at + 1] - 65) as usize;
-    let third = (bytes[at + 2] - 65) as usize;
+    let first = usize::from(text[0] - 65);
+    let second = usize::from(text[1] - 65);
+    let third = usize::from(text[2] - 65);
     676 * first + 26 * second + third
 }
 
-// The mark that the entry at a place makes.
-fn mark(table: &[u8], at: usize) -> u16
-    requires { at + 4 ≤ length table.now }
-    ensures { (result ≡ get_or table.now (at + 3) 0 + 1) × (result ≤ 256) }
-{
-    table[at + 3] as u16 + 1
-}
-
-// The marks of a table, from its last entry to its first, so that the earlier of two with the same letters counts.
-pub fn marks(table: &[u8]) -> [u16; 17576]
-    requires { table_right table.now ≡ true }
-    ensures { Marked (entries table.now) result }
-{
-    let mut marks = [0u16; 17576];
-    let mut k = table.len() / 4;
-    while 0 < k {
-        let at = 4 * k - 4;
-        let place = number(table, at);
-        marks[place] = mark(table, at);
-        k -= 1;
+impl<'a> Index<'a> {
+    // The marks are made from the last entry to the first, so that the earlier of two with the same letters counts.
+    pub fn new(table: &'a [u8]) -> Index<'a>
+        requires { table_right table.now ≡ true }
+        ensures { result.table.now ≡ table.now }
+    {
+        let mut marks = [None; 17576];
+        for k in (0..table.len() / 4).rev() {
+            let entry = &table[4 * k..4 * k + 4];
+            marks[number(entry)] = Some(entry[3]);
+        }
+        Index { table, marks }
     }
-    marks
+
+    // The code of the line that a text begins with, if it is right and in the table.
+    pub fn code(&self, text: &[u8]) -> Option<u8>
+        ensures { result ≡ code_of (entries self.now.table.now) (take 4 text.now) }
+    {
+        if text.len() < 4 || !letters(text) || text[3] != 10 {
+            return None;
+        }
+        self.marks[number(text)]
+    }
+
+    // The code of a line that has one.
+    pub fn known_code(&self, text: &[u8]) -> u8
+        requires { IsSome (code_of (entries self.now.table.now) (take 4 text.now)) }
+        ensures { code_of (entries self.now.table.now) (take 4 text.now) ≡ Some result }
+    {
+        self.marks[number(text)].unwrap()
+    }
 }

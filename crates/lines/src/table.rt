@@ -1,5 +1,5 @@
 // The rule of the table: whole entries, each of which begins with three capital letters.
-ghost use Rattle.std.specs.Prelude.{◌≡◌, ◌+◌, ◌≤◌, length, drop};
+ghost use Rattle.std.specs.Prelude.{◌≡◌, ◌≤◌, length};
 ghost use Rattle.rules.specs.Lines.{capital as is_capital, letters_right, table_right};
 
 fn capital(b: u8) -> bool
@@ -8,12 +8,12 @@ fn capital(b: u8) -> bool
     (65 <= b) & (b <= 90)
 }
 
-// Whether three capital letters stand at a place.
-pub fn letters(bytes: &[u8], at: usize) -> bool
-    requires { at + 3 ≤ length bytes.now }
-    ensures { result ≡ letters_right (drop at bytes.now) }
+// Whether a text begins with three capital letters.
+pub fn letters(text: &[u8]) -> bool
+    requires { 3 ≤ length text.now }
+    ensures { result ≡ letters_right text.now }
 {
-    capital(bytes[at]) & capital(bytes[at + 1]) & capital(bytes[at + 2])
+    capital(text[0]) & capital(text[1]) & capital(text[2])
 }
 
 pub fn right(table: &[u8]) -> bool
@@ -22,12 +22,10 @@ pub fn right(table: &[u8]) -> bool
     if table.len() % 4 != 0 {
         return false;
     }
-    let mut at: usize = 0;
-    while at < table.len() {
-        if !letters(table, at) {
+    for k in 0..table.len() / 4 {
+        if !letters(&table[4 * k..]) {
             return false;
         }
-        at += 4;
     }
     true
 }

@@ -1,31 +1,18 @@
 -- `lines::text::scan` meets its contract: all lines before the place have codes. Assumes nothing.
-use mathlib.Core.Path.{refl}
-use native.Mathlib.Omega.{arith}
-use Rattle.lines.proofs.ScanLaws.{passed_wrong, passed_next, passed_end}
+use Rattle.std.proofs.Common.{◌∙◌, sym, arith}
+use Rattle.std.proofs.lemmas.List.{take_rest}
+use Rattle.lines.proofs.ScanLaws.{none_of, some_of, passed_wrong, passed_next, passed_end}
 use Rattle.lines.proofs.text.scan.Goals as goal
 
-pub loop-at-init : goal.loop-at-init
-loop-at-init c = record { within = omega arith; whole = omega arith; rest = λ es m. refl }
+pub returns-then-is_none : goal.returns-then-is_none
+returns-then-is_none c =
+    let none = sym (rw take_rest at c.code.ensures) ∙ none_of c.code.result c.is_none.ensures c.if-is_none.true in
+    passed_wrong _ _ c.loop-i.i c.loop-i.invariant (omega (arith, c.div_ceil-i-end.ensures)) none
 
-pub mark-requires : goal.mark-requires
-mark-requires c = c.loop-at.invariant.within
-
-pub overflow_add-result : goal.overflow_add-result
-overflow_add-result c = omega (arith)
-
-pub returns-then-mark-eq0 : goal.returns-then-mark-eq0
-returns-then-mark-eq0 c =
-    let l = c.loop-at in
-    passed_wrong l.invariant c.loop-at-test.true (rw c.if-mark-eq0.true at c.mark.ensures)
-
-pub overflow_add-at : goal.overflow_add-at
-overflow_add-at c = omega (arith, c.mark.ensures.whole (omega (arith, c.if-mark-eq0.false)))
-
-pub loop-at-smaller : goal.loop-at-smaller
-loop-at-smaller c = omega arith
-
-pub loop-at-preserved : goal.loop-at-preserved
-loop-at-preserved c = passed_next c.loop-at.invariant c.mark.ensures (omega (arith, c.if-mark-eq0.false))
+pub loop-i-preserved : goal.loop-i-preserved
+loop-i-preserved c =
+    let some = some_of c.code.result (rw c.if-is_none.false at c.is_none.ensures) in
+    passed_next _ _ c.loop-i.i c.loop-i.invariant (sym (rw take_rest at c.code.ensures) ∙ some.1)
 
 pub returns : goal.returns
-returns c = passed_end c.loop-at.invariant c.loop-at-test.false
+returns c = passed_end _ _ c.loop-i.i c.loop-i.invariant (omega (arith, c.div_ceil-i-end.ensures))

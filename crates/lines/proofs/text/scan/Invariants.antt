@@ -1,11 +1,7 @@
 -- `lines::text::scan` meets its contract: all lines before the place have codes. Assumes nothing.
-use Prim.Native.Nat.{◌-◌}
-use lib.ListN.{length}
+use Rattle.rules.specs.Lines.{entries}
 use Rattle.lines.proofs.ScanLaws.{Passed}
 use Rattle.lines.proofs.text.scan.Given as goal
 
-abbrev pub invariant-loop-at : goal.invariant-loop-at
-invariant-loop-at l = Passed l.text l.marks l.at
-
-abbrev pub decreases-loop-at : goal.decreases-loop-at
-decreases-loop-at l = length l.text - l.at
+abbrev pub invariant-loop-i : goal.invariant-loop-i
+invariant-loop-i l = Passed (entries l.index.table.now) l.text l.i
