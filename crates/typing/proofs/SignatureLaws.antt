@@ -3,7 +3,6 @@
 use mathlib.Core.Path.{◌≡◌, refl, ap, ◌∙◌}
 use mathlib.Core.List.{List, [], ◌++◌}
 use Rattle.std.specs.Prelude.{Option, None, Some}
-use mathlib.Core.Bool.{true}
 use Prim.Native.Nat.{ℕ, ◌≤◌, ◌<◌}
 use native.Mathlib.Omega.{arith}
 use native.Mathlib.Nat.{zero-add}
@@ -22,11 +21,10 @@ use Rattle.rules.specs.Types.{type_rule}
 use Rattle.rules.proofs.EachLaws.{each_from_0}
 use Rattle.rules.proofs.NumberedLaws.{numbered_at, numbered_past}
 use Rattle.operands.specs.declared.stack.Stack.{Stack}
-use Rattle.operands.specs.declared.named.Lookup.{Lookup}
-use Rattle.operands.specs.Operands.{stack_of, Holds, applied, branched, Signature, Finds}
+use Rattle.operands.specs.Operands.{stack_of, applied, branched, signature_of}
 use Rattle.operands.specs.Operands.{applied_to, branched_to}
-use Rattle.typing.specs.Typing.{constructor_signature, function_signature, not_found}
-use Rattle.program.proofs.LayoutLaws.{constructors_count, functions_count, constructor_there, function_there, head_placed}
+use Rattle.typing.specs.Typing.{constructor_signature, function_signature}
+use Rattle.program.proofs.LayoutLaws.{constructors_count, functions_count, head_placed}
 
 ---- What has a number
 
@@ -62,38 +60,24 @@ module _ {file : List ℕ} {h : Header} (o : Headed file h) where
 
 ---- What a lookup finds
 
-finds_none : {o : Option Signature} → o ≡ None → Finds o not_found
-finds_none e = record {
-  unknown = λ _. e;
-  known = λ q. let z : ◌≡◌ {A = ℕ} 0 1 = cc in absurd (omega arith);
-  few = omega arith;
-}
-
-finds_some : {o : Option Signature} {d : Declaration} → o ≡ Some (arguments_of d, d.result) → d.arity ≤ 4
-    → Finds o (record { known = true; signature = d })
-finds_some e few = record { unknown = λ q. let z : ◌≡◌ {A = ℕ} 0 1 = cc in absurd (omega arith); known = λ _. e; few = few }
-
 module _ {file : List ℕ} {h : Header} (o : Headed file h) (c : ℕ) where
-  pub constructor_missing : {l : Lookup} → l ≡ not_found → h.constructors ≤ c
-      → Finds (constructor_signature (constructor (program_in file) c)) l
-  constructor_missing e q = rw e (finds_none (ap constructor_signature (constructor_unknown o c q)))
+  pub constructor_missing : h.constructors ≤ c → None ≡ constructor_signature (constructor (program_in file) c)
+  constructor_missing q = rw (constructor_unknown o c q) refl
 
   -- as it is read where it stands
-  pub constructor_found_lem : {d : Declaration} → c < h.constructors → d ≡ declaration_at (payload file) (constructor_offset c)
-      → Finds (constructor_signature (constructor (program_in file) c)) (record { known = true; signature = d })
+  pub constructor_read : {d : Declaration} → c < h.constructors → d ≡ declaration_at (payload file) (constructor_offset c)
+      → Some (signature_of d) ≡ constructor_signature (constructor (program_in file) c)
   unfolding constructor_of
-  constructor_found_lem l e = rw e (finds_some (ap constructor_signature (constructor_known o c l)) (constructor_there o c l).1)
+  constructor_read l e = rw (e, constructor_known o c l) refl
 
 module _ {file : List ℕ} {h : Header} {heads : List ℕ} (o : LaidOut file h heads) (g : ℕ) where
-  pub function_missing : {l : Lookup} → l ≡ not_found → h.functions ≤ g → Finds (function_signature (function (program_in file) g)) l
-  function_missing e q = rw e (finds_none (ap function_signature (function_unknown o.headed g q)))
+  pub function_missing : h.functions ≤ g → None ≡ function_signature (function (program_in file) g)
+  function_missing q = rw (function_unknown o.headed g q) refl
 
-  pub function_found : {d : Declaration} → g < h.functions → d ≡ declaration_at (payload file) (get_or heads g 0)
-      → Finds (function_signature (function (program_in file) g)) (record { known = true; signature = d })
+  pub function_read : {d : Declaration} → g < h.functions → d ≡ declaration_at (payload file) (get_or heads g 0)
+      → Some (signature_of d) ≡ function_signature (function (program_in file) g)
   unfolding function_of
-  function_found l e =
-      rw (e, head_placed o g l)
-      (finds_some (ap function_signature (function_known o.headed g l)) (function_there o.headed g l).arity)
+  function_read l e = rw (e, head_placed o g l, function_known o.headed g l) refl
 
   -- its flow is right, where its head stands by the layout
   pub flow_placed : flow_right (program_in file) ≡ passed → g < h.functions
@@ -138,7 +122,7 @@ module _ (bytes : List ℕ) (at : ℕ) {d : Declaration} (e : d ≡ declaration_
   own_result = rw e
 
   -- its parameters are the stack at the start
-  pub own_start : {empty first : Stack} → Holds empty [] → Holds first (stack_of empty ++ arguments_of d)
-      → Holds first (function_of bytes at).parameters
+  pub own_start : (empty first : Stack) → stack_of empty ≡ [] → stack_of first ≡ stack_of empty ++ arguments_of d
+      → stack_of first ≡ (function_of bytes at).parameters
   unfolding function_of
-  own_start o p = record { sound = p.sound; is = p.is ∙ rw (o.is, e) }
+  own_start _ _ o p = p ∙ rw (o, e) refl
