@@ -9,16 +9,17 @@ use Rattle.store.specs.declared.frames.Frame.{Frame}
 use Rattle.store.specs.declared.limits.Limits.{Limits}
 use Rattle.steps.specs.Stands.{Lent}
 use Rattle.machine.specs.Runs.{EndsAs}
+use Rattle.machine.specs.declared.run.End.{End}
 use Rattle.steps.specs.declared.state.Registers.{Registers}
 
 -- what delivering asks: how a run under a budget ended that says so
 pub record Ended (file : List ℕ) (m : Limits) (budget : ℕ) (says : Outcome) (cells stack : List ℕ) (r : Registers) (i : ℕ)
-    (ws : List Frame) : Type 0 where
+    (ws : List Frame) (end : End) : Type 0 where
   pub parsed : Parsed file
   pub lent : Lent m cells stack
   pub few : budget < 4294967296
   pub fewer : r.left ≤ budget
-  pub ends : EndsAs file m budget says cells stack r i ws
+  pub ends : EndsAs file m budget says cells stack r i ws end
 
 -- an outcome delivered into an output
 pub record Delivers (a : Outcome) (out out' : List ℕ) (r : Answer) : Type 0 where
