@@ -9,7 +9,7 @@ ghost use Rattle.rules.specs.Records.{header_at, declaration_at, constructor_at,
 ghost use Rattle.rules.specs.Records.{constructor_offset};
 ghost use Rattle.rules.specs.Established.{Verified};
 
-use fields::{Record, left_in_block, place_of};
+use fields::{left_in_block, place_of};
 use ranges::operation_of;
 use rules::records::{
     AlternativeRecord, ConstructorRecord, Declaration, HeadRecord, Header, Instruction,
@@ -18,6 +18,7 @@ use rules::records::{
 
 mod offsets; // offsets.rt: where each record stands in the payload
 
+pub use fields::Record;
 pub use offsets::{alternative_offset, constructor_offset, instruction_offset};
 
 // For the crates above: a byte as an index or a count.
