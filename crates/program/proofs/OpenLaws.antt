@@ -10,10 +10,12 @@ use Rattle.rules.specs.declared.records.Header.{Header}
 use Rattle.rules.specs.declared.records.HeadRecord.{HeadRecord}
 use Rattle.rules.specs.Base.{Refusal, refusal, refused, ◌>>=◌, Check, passed, require, for_each, within, byte_at, word_at}
 use Rattle.rules.specs.Container.{payload}
-use Rattle.rules.specs.Records.{header_at, head_at, alternative_at, header_right, head_right, alternative_right, constructor_offset}
+use Rattle.rules.specs.Records.{header_at, constructor_at, head_at, alternative_at, header_right, constructor_right, head_right, alternative_right}
+use Rattle.rules.specs.Records.{constructor_offset}
 use Rattle.rules.specs.Records.{alternative_offset, instruction_offset, code_offset, behind, head_offset, record_right, constructor_check}
 use Rattle.rules.specs.Records.{alternative_check, instruction_check, function_right, constructors_right, functions_right, nothing_left}
 use Rattle.rules.specs.Records.{records_right}
+use Rattle.program.specs.Nth.{nth_right}
 use Rattle.rules.specs.Established.{Measured, LaidOut}
 use Rattle.rules.proofs.ListLaws.{and_left, and_right}
 use Rattle.rules.proofs.PassLaws.{Passing, pass_first, pass_stop, pass_next, pass_end}
@@ -38,12 +40,6 @@ module _ {file : List ℕ} {n : ℕ} (o : Measured file n) (size : ℕ) (right :
 
 ---- One function
 
--- the alternatives of the function with this arity whose head stands at an offset
-abbrev alternatives_check : List ℕ → ℕ → ℕ → ℕ → Check
-alternatives_check p at arity count =
-    for_each (λ k. record_right 6 p (alternative_offset at k) (alternative_right arity (alternative_at p (alternative_offset at k)))) 0
-    count
-
 function_by : (p : List ℕ) (at : ℕ) {t u v : Check} → record_right 10 p at (head_right (head_at p at)) ≡ t
     → for_each (alternative_check p at) 0 (byte_at p (at + 6)) ≡ u
     → for_each (instruction_check p (code_offset p at)) 0 (word_at p (at + 8)) ≡ v
@@ -67,30 +63,31 @@ module _ {file : List ℕ} {n : ℕ} (o : Measured file n) (at : ℕ) where
       head_good : record_right 10 p at (head_right (head_at p at)) ≡ passed
       head_good = record_good o 10 (λ x. head_right (head_at p x)) refl whole (right ∙ ap head_right is) w
 
-      alternatives_as : {t : Check} → t ≡ alternatives_check p at h.declaration.arity h.alternatives
-          → for_each (alternative_check p at) 0 (byte_at p (at + 6)) ≡ t
-      alternatives_as e = sym (e ∙ ap (λ (x : HeadRecord). alternatives_check p at x.declaration.arity x.alternatives) is)
+      -- the alternatives as the code checks them
+      module _ {count first : ℕ} (ec : count ≡ h.alternatives) (ef : first ≡ at + 10) where
+        alternatives_as : {t : Check} → t ≡ for_each (nth_right 6 alternative_at (alternative_right h.declaration.arity) p first) 0 count
+            → for_each (alternative_check p at) 0 (byte_at p (at + 6)) ≡ t
+        alternatives_as e =
+            sym (e ∙ ap (λ (m : ℕ). for_each (nth_right 6 alternative_at (alternative_right h.declaration.arity) p first) 0 m) ec
+            ∙ ap (λ (f : ℕ). for_each (nth_right 6 alternative_at (alternative_right h.declaration.arity) p f) 0 h.alternatives) ef
+            ∙ ap (λ (x : HeadRecord). for_each (nth_right 6 alternative_at (alternative_right x.declaration.arity) p (at + 10)) 0 x.alternatives) is)
 
-      pub placed_alternatives : {q : Refusal} → refused q ≡ alternatives_check p at h.declaration.arity h.alternatives
-          → refused q ≡ function_right p at
-      placed_alternatives e = function_by p at head_good (alternatives_as e) refl
+        pub placed_alternatives : {q : Refusal}
+            → refused q ≡ for_each (nth_right 6 alternative_at (alternative_right h.declaration.arity) p first) 0 count
+            → refused q ≡ function_right p at
+        placed_alternatives e = function_by p at head_good (alternatives_as e) refl
 
-      module _ (e : passed ≡ alternatives_check p at h.declaration.arity h.alternatives) {k base : ℕ} (ek : k ≡ h.alternatives)
-          (eb : base ≡ alternative_offset at k) where
-        base_is : base ≡ code_offset p at
-        base_is = eb ∙ ap (alternative_offset at) ek ∙ ap (λ (x : HeadRecord). alternative_offset at x.alternatives) is
+        module _ (e : passed ≡ for_each (nth_right 6 alternative_at (alternative_right h.declaration.arity) p first) 0 count)
+            {k base : ℕ} (ek : k ≡ h.alternatives) (eb : base ≡ alternative_offset at k) where
+          base_is : base ≡ code_offset p at
+          base_is = eb ∙ ap (alternative_offset at) ek ∙ ap (λ (x : HeadRecord). alternative_offset at x.alternatives) is
 
-        pub placed_code : {t : Check} → t ≡ for_each (instruction_check p base) 0 h.instructions → t ≡ function_right p at
-        placed_code {t} e' =
-            let code : for_each (instruction_check p (code_offset p at)) 0 (word_at p (at + 8)) ≡ t =
-            sym (e' ∙ ap (λ (b : ℕ). for_each (instruction_check p b) 0 h.instructions) base_is
-            ∙ ap (λ (x : HeadRecord). for_each (instruction_check p (code_offset p at)) 0 x.instructions) is) in
-            function_by p at head_good (alternatives_as e) code
-
-        pub placed_behind : {count end : ℕ} → count ≡ h.instructions → end ≡ instruction_offset base count → end ≡ behind p at
-        placed_behind ec ee =
-            ee ∙ ap (instruction_offset base) (ec ∙ ap (λ (x : HeadRecord). x.instructions) is)
-            ∙ ap (λ (b : ℕ). instruction_offset b (word_at p (at + 8))) base_is
+          pub placed_code : {t : Check} → t ≡ for_each (instruction_check p base) 0 h.instructions → t ≡ function_right p at
+          placed_code {t} e' =
+              let code : for_each (instruction_check p (code_offset p at)) 0 (word_at p (at + 8)) ≡ t =
+              sym (e' ∙ ap (λ (b : ℕ). for_each (instruction_check p b) 0 h.instructions) base_is
+              ∙ ap (λ (x : HeadRecord). for_each (instruction_check p (code_offset p at)) 0 x.instructions) is) in
+              function_by p at head_good (alternatives_as e) code
 
 ---- All functions
 
@@ -164,10 +161,6 @@ module _ {file : List ℕ} {n : ℕ} (o : Measured file n) where
       header_good : record_right 4 bytes 0 (header_right (header_at bytes 0)) ≡ passed
       header_good = record_good o 4 (λ x. header_right (header_at bytes x)) refl whole (right ∙ ap header_right is) w
 
-      constructors_as : {v : Check} → v ≡ for_each (constructor_check bytes) 0 h.constructors → constructors_right bytes ≡ v
-      unfolding constructors_right
-      constructors_as e = sym (e ∙ ap (λ (x : Header). for_each (constructor_check bytes) 0 x.constructors) is)
-
       functions_as : {v : Check} → v ≡ for_each (function_check bytes) 0 h.functions → functions_right bytes ≡ v
       unfolding functions_right
       functions_as e = sym (e ∙ ap (λ (x : Header). for_each (function_check bytes) 0 x.functions) is)
@@ -175,38 +168,48 @@ module _ {file : List ℕ} {n : ℕ} (o : Measured file n) where
       pub open_few : h.functions ≤ 32
       open_few = few_functions h (sym right ∙ w)
 
-      pub open_constructors : {q : Refusal} → refused q ≡ for_each (constructor_check bytes) 0 h.constructors → refused q ≡ records_right bytes
-      open_constructors e = records_by bytes header_good (constructors_as e) refl refl
-
       pub open_first : {c first : ℕ} {heads : List ℕ} → c ≡ h.constructors → first ≡ constructor_offset c → first ≤ 400000
           → length heads ≡ 32 → Scanned bytes h.functions 0 first heads
       unfolding head_offset
       open_first ec e = scan_first (e ∙ ap constructor_offset (ec ∙ ap (λ (x : Header). x.constructors) is))
 
-      module _ (constructors : passed ≡ for_each (constructor_check bytes) 0 h.constructors) where
-        pub open_functions : {q : Refusal} → refused q ≡ for_each (function_check bytes) 0 h.functions → refused q ≡ records_right bytes
-        open_functions e = records_by bytes header_good (constructors_as constructors) (functions_as e) refl
+      -- the constructors as the code checks them
+      module _ {count first : ℕ} (ec : count ≡ h.constructors) (ef : first ≡ 4) where
+        constructors_as : {v : Check} → v ≡ for_each (nth_right 8 constructor_at constructor_right bytes first) 0 count
+            → constructors_right bytes ≡ v
+        unfolding constructors_right
+        constructors_as e =
+            sym (e ∙ ap (λ (f : ℕ). for_each (nth_right 8 constructor_at constructor_right bytes f) 0 count) ef
+            ∙ ap (for_each (constructor_check bytes) 0) (ec ∙ ap (λ (x : Header). x.constructors) is))
 
-        module _ {at g : ℕ} {heads : List ℕ} (s : Scanned bytes h.functions g at heads) (all : h.functions ≤ g) where
-          ends : at ≡ head_offset bytes (byte_at bytes 3)
-          ends =
-              let e : g ≡ h.functions = omega (arith, s.passing.within) in
-              s.here ∙ ap (head_offset bytes) (e ∙ ap (λ (x : Header). x.functions) is)
+        pub open_constructors : {q : Refusal} → refused q ≡ for_each (nth_right 8 constructor_at constructor_right bytes first) 0 count
+            → refused q ≡ records_right bytes
+        open_constructors e = records_by bytes header_good (constructors_as e) refl refl
 
-          by_end : (v : Bool) → eqb at n ≡ v → require v (refusal 4 at 0) ≡ records_right bytes
-          unfolding nothing_left
-          by_end v e =
-              records_by bytes header_good (constructors_as constructors) (functions_as (pass_end s.passing all))
-              (rw (← ends, ← o.long, e))
+        module _ (constructors : passed ≡ for_each (nth_right 8 constructor_at constructor_right bytes first) 0 count) where
+          pub open_functions : {q : Refusal} → refused q ≡ for_each (function_check bytes) 0 h.functions → refused q ≡ records_right bytes
+          open_functions e = records_by bytes header_good (constructors_as constructors) (functions_as e) refl
 
-          pub open_end : (at ≡ n → ⊥) → refused (refusal 4 at 0) ≡ records_right bytes
-          open_end ne = by_end false (ne_eqb at n ne)
+          module _ {at g : ℕ} {heads : List ℕ} (s : Scanned bytes h.functions g at heads) (all : h.functions ≤ g) where
+            ends : at ≡ head_offset bytes (byte_at bytes 3)
+            ends =
+                let e : g ≡ h.functions = omega (arith, s.passing.within) in
+                s.here ∙ ap (head_offset bytes) (e ∙ ap (λ (x : Header). x.functions) is)
 
-          pub open_right : at ≡ n → passed ≡ records_right bytes
-          open_right e = by_end true (eq-eqb at n e)
+            by_end : (v : Bool) → eqb at n ≡ v → require v (refusal 4 at 0) ≡ records_right bytes
+            unfolding nothing_left
+            by_end v e =
+                records_by bytes header_good (constructors_as constructors) (functions_as (pass_end s.passing all))
+                (rw (← ends, ← o.long, e))
 
-          pub open_laid : at ≡ n → LaidOut file h heads
-          open_laid e = record {
-            headed = record { parsed = record { verified = o.verified; records = sym (open_right e) }; header = is };
-            placed = λ j b. s.placed j (omega (arith, all, ap (λ (x : Header). x.functions) is));
-          }
+            pub open_end : (at ≡ n → ⊥) → refused (refusal 4 at 0) ≡ records_right bytes
+            open_end ne = by_end false (ne_eqb at n ne)
+
+            pub open_right : at ≡ n → passed ≡ records_right bytes
+            open_right e = by_end true (eq-eqb at n e)
+
+            pub open_laid : at ≡ n → LaidOut file h heads
+            open_laid e = record {
+              headed = record { parsed = record { verified = o.verified; records = sym (open_right e) }; header = is };
+              placed = λ j b. s.placed j (omega (arith, all, ap (λ (x : Header). x.functions) is));
+            }
