@@ -1,8 +1,8 @@
 -- The contract of check joined with the rules as relations.
 use mathlib.Core.Path.{◌≡◌, refl, sym, ap, ◌∙◌}
 use Rattle.rules.specs.declared.answers.Counts.{Counts}
-use Rattle.rules.specs.declared.answers.Verdict.{Verdict}
-use Rattle.rules.specs.declared.answers.Verdict.TheVariants as verdict
+use Rattle.rules.specs.declared.answers.Reason.{Reason}
+use Rattle.std.specs.Prelude.{Result, Ok, Err}
 use Rattle.rules.specs.Base.{Refusal, Tried, found, refused}
 use Rattle.rules.specs.Program.{Program}
 use Rattle.rules.specs.Check.{checked, counts_of, verdict_of}
@@ -24,17 +24,17 @@ check_exactly file r e = record { accepted = λ counts. (obeys counts, accepts c
         one (found s) w = f s w
         one (refused q) w = g q w
 
-    accepted_is : (counts counts' : Counts) (r : Verdict) → told r ≡ found counts' → counts' ≡ counts → r ≡ verdict.Accepted counts
-    accepted_is counts counts' (verdict.Accepted c) w q = ap verdict.Accepted (found_inj w ∙ q)
-    accepted_is counts counts' (verdict.Refused why) w q = absurd (refused_found w)
+    accepted_is : (counts counts' : Counts) (r : Result Counts Reason) → told r ≡ found counts' → counts' ≡ counts → r ≡ Ok counts
+    accepted_is counts counts' (Ok c) w q = ap Ok (found_inj w ∙ q)
+    accepted_is counts counts' (Err why) w q = absurd (refused_found w)
 
-    obeys : (counts : Counts) → r ≡ verdict.Accepted counts → (s : Program) × Obeys file s × (counts_of s ≡ counts)
+    obeys : (counts : Counts) → r ≡ Ok counts → (s : Program) × Obeys file s × (counts_of s ≡ counts)
     obeys counts is =
         let says : found counts ≡ verdict_of file = ap told (sym is) ∙ e in
         by_check (λ s w. (s, (check_exact file s).0 w, found_inj (sym (verdict_accepted file w) ∙ sym says)))
         (λ q w. absurd (refused_found (sym (verdict_refused file w) ∙ sym says)))
 
-    accepts : (counts : Counts) → (s : Program) × Obeys file s × (counts_of s ≡ counts) → r ≡ verdict.Accepted counts
+    accepts : (counts : Counts) → (s : Program) × Obeys file s × (counts_of s ≡ counts) → r ≡ Ok counts
     accepts counts (s, o, q) = accepted_is counts (counts_of s) r (e ∙ verdict_accepted file ((check_exact file s).1 o)) q
 
     fails : (q : Refusal) → told r ≡ refused q → Fails file q
