@@ -20,6 +20,7 @@ use Rattle.rules.specs.Established.{Measured, LaidOut}
 use Rattle.rules.proofs.ListLaws.{and_left, and_right}
 use Rattle.rules.proofs.PassLaws.{Passing, pass_first, pass_stop, pass_next, pass_end}
 use Rattle.rules.proofs.RecordLaws.{record_short, record_whole}
+use Rattle.rules.proofs.TriedLaws.{required}
 
 ---- One record
 
@@ -47,47 +48,36 @@ function_by : (p : List ℕ) (at : ℕ) {t u v : Check} → record_right 10 p at
 unfolding function_right
 function_by p at e₁ e₂ e₃ = rw (e₁, e₂, e₃)
 
-module _ {file : List ℕ} {n : ℕ} (o : Measured file n) (at : ℕ) where
-  abbrev p : List ℕ
-  p = payload file
+module _ (p : List ℕ) (at : ℕ) where
+  pub placed_head : {q : Refusal} → refused q ≡ record_right 10 p at (head_right (head_at p at)) → refused q ≡ function_right p at
+  placed_head e = function_by p at (sym e) refl refl
 
-  pub placed_cut : n < at + 10 → refused (refusal 4 at 0) ≡ function_right p at
-  placed_cut h = function_by p at (record_cut o 10 (λ x. head_right (head_at p x)) refl h) refl refl
+  module _ {h : HeadRecord} (good : passed ≡ record_right 10 p at (head_right (head_at p at))) (is : h ≡ head_at p at) where
+    -- the alternatives as the code checks them
+    module _ {count first : ℕ} (ec : count ≡ h.alternatives) (ef : first ≡ at + 10) where
+      alternatives_as : {t : Check} → t ≡ for_each (nth_right 6 alternative_at (alternative_right h.declaration.arity) p first) 0 count
+          → for_each (alternative_check p at) 0 (byte_at p (at + 6)) ≡ t
+      alternatives_as e =
+          sym (e ∙ ap (λ (m : ℕ). for_each (nth_right 6 alternative_at (alternative_right h.declaration.arity) p first) 0 m) ec
+          ∙ ap (λ (f : ℕ). for_each (nth_right 6 alternative_at (alternative_right h.declaration.arity) p f) 0 h.alternatives) ef
+          ∙ ap (λ (x : HeadRecord). for_each (nth_right 6 alternative_at (alternative_right x.declaration.arity) p (at + 10)) 0 x.alternatives) is)
 
-  module _ {h : HeadRecord} {r : Bool} (whole : at + 10 ≤ n) (is : h ≡ head_at p at) (right : r ≡ head_right h) where
-    pub placed_bad : r ≡ false → refused (refusal 4 at 0) ≡ function_right p at
-    placed_bad w =
-        function_by p at (record_bad o 10 (λ x. head_right (head_at p x)) refl whole (right ∙ ap head_right is) w) refl refl
+      pub placed_alternatives : {q : Refusal}
+          → refused q ≡ for_each (nth_right 6 alternative_at (alternative_right h.declaration.arity) p first) 0 count
+          → refused q ≡ function_right p at
+      placed_alternatives e = function_by p at (sym good) (alternatives_as e) refl
 
-    module _ (w : r ≡ true) where
-      head_good : record_right 10 p at (head_right (head_at p at)) ≡ passed
-      head_good = record_good o 10 (λ x. head_right (head_at p x)) refl whole (right ∙ ap head_right is) w
+      module _ (e : passed ≡ for_each (nth_right 6 alternative_at (alternative_right h.declaration.arity) p first) 0 count)
+          {k base : ℕ} (ek : k ≡ h.alternatives) (eb : base ≡ alternative_offset at k) where
+        base_is : base ≡ code_offset p at
+        base_is = eb ∙ ap (alternative_offset at) ek ∙ ap (λ (x : HeadRecord). alternative_offset at x.alternatives) is
 
-      -- the alternatives as the code checks them
-      module _ {count first : ℕ} (ec : count ≡ h.alternatives) (ef : first ≡ at + 10) where
-        alternatives_as : {t : Check} → t ≡ for_each (nth_right 6 alternative_at (alternative_right h.declaration.arity) p first) 0 count
-            → for_each (alternative_check p at) 0 (byte_at p (at + 6)) ≡ t
-        alternatives_as e =
-            sym (e ∙ ap (λ (m : ℕ). for_each (nth_right 6 alternative_at (alternative_right h.declaration.arity) p first) 0 m) ec
-            ∙ ap (λ (f : ℕ). for_each (nth_right 6 alternative_at (alternative_right h.declaration.arity) p f) 0 h.alternatives) ef
-            ∙ ap (λ (x : HeadRecord). for_each (nth_right 6 alternative_at (alternative_right x.declaration.arity) p (at + 10)) 0 x.alternatives) is)
-
-        pub placed_alternatives : {q : Refusal}
-            → refused q ≡ for_each (nth_right 6 alternative_at (alternative_right h.declaration.arity) p first) 0 count
-            → refused q ≡ function_right p at
-        placed_alternatives e = function_by p at head_good (alternatives_as e) refl
-
-        module _ (e : passed ≡ for_each (nth_right 6 alternative_at (alternative_right h.declaration.arity) p first) 0 count)
-            {k base : ℕ} (ek : k ≡ h.alternatives) (eb : base ≡ alternative_offset at k) where
-          base_is : base ≡ code_offset p at
-          base_is = eb ∙ ap (alternative_offset at) ek ∙ ap (λ (x : HeadRecord). alternative_offset at x.alternatives) is
-
-          pub placed_code : {t : Check} → t ≡ for_each (instruction_check p base) 0 h.instructions → t ≡ function_right p at
-          placed_code {t} e' =
-              let code : for_each (instruction_check p (code_offset p at)) 0 (word_at p (at + 8)) ≡ t =
-              sym (e' ∙ ap (λ (b : ℕ). for_each (instruction_check p b) 0 h.instructions) base_is
-              ∙ ap (λ (x : HeadRecord). for_each (instruction_check p (code_offset p at)) 0 x.instructions) is) in
-              function_by p at head_good (alternatives_as e) code
+        pub placed_code : {t : Check} → t ≡ for_each (instruction_check p base) 0 h.instructions → t ≡ function_right p at
+        placed_code {t} e' =
+            let code : for_each (instruction_check p (code_offset p at)) 0 (word_at p (at + 8)) ≡ t =
+            sym (e' ∙ ap (λ (b : ℕ). for_each (instruction_check p b) 0 h.instructions) base_is
+            ∙ ap (λ (x : HeadRecord). for_each (instruction_check p (code_offset p at)) 0 x.instructions) is) in
+            function_by p at (sym good) (alternatives_as e) code
 
 ---- All functions
 
@@ -149,67 +139,61 @@ module _ {file : List ℕ} {n : ℕ} (o : Measured file n) where
   abbrev bytes : List ℕ
   bytes = payload file
 
-  pub open_cut : n < 4 → refused (refusal 4 0 0) ≡ records_right bytes
-  open_cut h = records_by bytes (record_cut o 4 (λ x. header_right (header_at bytes x)) refl h) refl refl refl
+  pub open_header : {q : Refusal} → refused q ≡ record_right 4 bytes 0 (header_right (header_at bytes 0)) → refused q ≡ records_right bytes
+  open_header e = records_by bytes (sym e) refl refl refl
 
-  module _ {h : Header} {t : Bool} (whole : 4 ≤ n) (is : h ≡ header_at bytes 0) (right : t ≡ header_right h) where
-    pub open_header : t ≡ false → refused (refusal 4 0 0) ≡ records_right bytes
-    open_header w =
-        records_by bytes (record_bad o 4 (λ x. header_right (header_at bytes x)) refl whole (right ∙ ap header_right is) w) refl refl refl
+  module _ {h : Header} (good : passed ≡ record_right 4 bytes 0 (header_right (header_at bytes 0))) (is : h ≡ header_at bytes 0) where
+    functions_as : {v : Check} → v ≡ for_each (function_check bytes) 0 h.functions → functions_right bytes ≡ v
+    unfolding functions_right
+    functions_as e = sym (e ∙ ap (λ (x : Header). for_each (function_check bytes) 0 x.functions) is)
 
-    module _ (w : t ≡ true) where
-      header_good : record_right 4 bytes 0 (header_right (header_at bytes 0)) ≡ passed
-      header_good = record_good o 4 (λ x. header_right (header_at bytes x)) refl whole (right ∙ ap header_right is) w
+    pub open_few : h.functions ≤ 32
+    unfolding record_right
+    open_few =
+        few_functions h (ap header_right is ∙ and_right (leb 4 (length bytes)) (header_right (header_at bytes 0)) (required _ _ (sym good)))
 
-      functions_as : {v : Check} → v ≡ for_each (function_check bytes) 0 h.functions → functions_right bytes ≡ v
-      unfolding functions_right
-      functions_as e = sym (e ∙ ap (λ (x : Header). for_each (function_check bytes) 0 x.functions) is)
+    pub open_first : {c first : ℕ} {heads : List ℕ} → c ≡ h.constructors → first ≡ constructor_offset c → first ≤ 400000
+        → length heads ≡ 32 → Scanned bytes h.functions 0 first heads
+    unfolding head_offset
+    open_first ec e = scan_first (e ∙ ap constructor_offset (ec ∙ ap (λ (x : Header). x.constructors) is))
 
-      pub open_few : h.functions ≤ 32
-      open_few = few_functions h (sym right ∙ w)
+    -- the constructors as the code checks them
+    module _ {count first : ℕ} (ec : count ≡ h.constructors) (ef : first ≡ 4) where
+      constructors_as : {v : Check} → v ≡ for_each (nth_right 8 constructor_at constructor_right bytes first) 0 count
+          → constructors_right bytes ≡ v
+      unfolding constructors_right
+      constructors_as e =
+          sym (e ∙ ap (λ (f : ℕ). for_each (nth_right 8 constructor_at constructor_right bytes f) 0 count) ef
+          ∙ ap (for_each (constructor_check bytes) 0) (ec ∙ ap (λ (x : Header). x.constructors) is))
 
-      pub open_first : {c first : ℕ} {heads : List ℕ} → c ≡ h.constructors → first ≡ constructor_offset c → first ≤ 400000
-          → length heads ≡ 32 → Scanned bytes h.functions 0 first heads
-      unfolding head_offset
-      open_first ec e = scan_first (e ∙ ap constructor_offset (ec ∙ ap (λ (x : Header). x.constructors) is))
+      pub open_constructors : {q : Refusal} → refused q ≡ for_each (nth_right 8 constructor_at constructor_right bytes first) 0 count
+          → refused q ≡ records_right bytes
+      open_constructors e = records_by bytes (sym good) (constructors_as e) refl refl
 
-      -- the constructors as the code checks them
-      module _ {count first : ℕ} (ec : count ≡ h.constructors) (ef : first ≡ 4) where
-        constructors_as : {v : Check} → v ≡ for_each (nth_right 8 constructor_at constructor_right bytes first) 0 count
-            → constructors_right bytes ≡ v
-        unfolding constructors_right
-        constructors_as e =
-            sym (e ∙ ap (λ (f : ℕ). for_each (nth_right 8 constructor_at constructor_right bytes f) 0 count) ef
-            ∙ ap (for_each (constructor_check bytes) 0) (ec ∙ ap (λ (x : Header). x.constructors) is))
+      module _ (constructors : passed ≡ for_each (nth_right 8 constructor_at constructor_right bytes first) 0 count) where
+        pub open_functions : {q : Refusal} → refused q ≡ for_each (function_check bytes) 0 h.functions → refused q ≡ records_right bytes
+        open_functions e = records_by bytes (sym good) (constructors_as constructors) (functions_as e) refl
 
-        pub open_constructors : {q : Refusal} → refused q ≡ for_each (nth_right 8 constructor_at constructor_right bytes first) 0 count
-            → refused q ≡ records_right bytes
-        open_constructors e = records_by bytes header_good (constructors_as e) refl refl
+        module _ {at g : ℕ} {heads : List ℕ} (s : Scanned bytes h.functions g at heads) (all : h.functions ≤ g) where
+          ends : at ≡ head_offset bytes (byte_at bytes 3)
+          ends =
+              let e : g ≡ h.functions = omega (arith, s.passing.within) in
+              s.here ∙ ap (head_offset bytes) (e ∙ ap (λ (x : Header). x.functions) is)
 
-        module _ (constructors : passed ≡ for_each (nth_right 8 constructor_at constructor_right bytes first) 0 count) where
-          pub open_functions : {q : Refusal} → refused q ≡ for_each (function_check bytes) 0 h.functions → refused q ≡ records_right bytes
-          open_functions e = records_by bytes header_good (constructors_as constructors) (functions_as e) refl
+          by_end : (v : Bool) → eqb at n ≡ v → require v (refusal 4 at 0) ≡ records_right bytes
+          unfolding nothing_left
+          by_end v e =
+              records_by bytes (sym good) (constructors_as constructors) (functions_as (pass_end s.passing all))
+              (rw (← ends, ← o.long, e))
 
-          module _ {at g : ℕ} {heads : List ℕ} (s : Scanned bytes h.functions g at heads) (all : h.functions ≤ g) where
-            ends : at ≡ head_offset bytes (byte_at bytes 3)
-            ends =
-                let e : g ≡ h.functions = omega (arith, s.passing.within) in
-                s.here ∙ ap (head_offset bytes) (e ∙ ap (λ (x : Header). x.functions) is)
+          pub open_end : (at ≡ n → ⊥) → refused (refusal 4 at 0) ≡ records_right bytes
+          open_end ne = by_end false (ne_eqb at n ne)
 
-            by_end : (v : Bool) → eqb at n ≡ v → require v (refusal 4 at 0) ≡ records_right bytes
-            unfolding nothing_left
-            by_end v e =
-                records_by bytes header_good (constructors_as constructors) (functions_as (pass_end s.passing all))
-                (rw (← ends, ← o.long, e))
+          pub open_right : at ≡ n → passed ≡ records_right bytes
+          open_right e = by_end true (eq-eqb at n e)
 
-            pub open_end : (at ≡ n → ⊥) → refused (refusal 4 at 0) ≡ records_right bytes
-            open_end ne = by_end false (ne_eqb at n ne)
-
-            pub open_right : at ≡ n → passed ≡ records_right bytes
-            open_right e = by_end true (eq-eqb at n e)
-
-            pub open_laid : at ≡ n → LaidOut file h heads
-            open_laid e = record {
-              headed = record { parsed = record { verified = o.verified; records = sym (open_right e) }; header = is };
-              placed = λ j b. s.placed j (omega (arith, all, ap (λ (x : Header). x.functions) is));
-            }
+          pub open_laid : at ≡ n → LaidOut file h heads
+          open_laid e = record {
+            headed = record { parsed = record { verified = o.verified; records = sym (open_right e) }; header = is };
+            placed = λ j b. s.placed j (omega (arith, all, ap (λ (x : Header). x.functions) is));
+          }
