@@ -1,5 +1,5 @@
 -- Where the check accepts, the readers give the program's records: the bytes as they stand are the payload, and each record is there.
-use mathlib.Core.Path.{◌≡◌, sym, ap, subst, ◌∙◌}
+use mathlib.Core.Path.{◌≡◌, refl, sym, ap, subst, ◌∙◌}
 use mathlib.Core.List.{List}
 use mathlib.Core.Bool.{true}
 use Rattle.std.specs.Prelude.{Option, None, Some}
@@ -13,7 +13,7 @@ use Rattle.rules.specs.Container.{verify, payload}
 use Rattle.rules.specs.Check.{checked}
 use Rattle.rules.specs.Established.{Verified}
 use Rattle.rules.specs.Program.{Function, Program, constructor, function}
-use Rattle.rules.specs.Records.{declaration_at, constructor_at, alternative_at, instruction_at, arguments_of, constructor_of}
+use Rattle.rules.specs.Records.{constructor_at, head_at, alternative_at, instruction_at, constructor_of}
 use Rattle.rules.specs.Records.{alternative_of}
 use Rattle.rules.specs.Records.{instruction_of, function_of, program_of, decode, records_right, is_some, or_else, operation}
 use Rattle.rules.specs.Records.{constructor_offset, head_offset, alternative_offset, code_offset, instruction_offset}
@@ -25,7 +25,7 @@ use Rattle.rules.proofs.NumberedLaws.{numbered_length, numbered_is}
 use Rattle.rules.proofs.RecordLaws.{records_there, arguments_length}
 use Rattle.rules.proofs.TriedLaws.{bind_found, found_inj}
 use Rattle.opened.specs.Opened.{counts_from, counts_in, FunctionRead, OpenExact}
-use Rattle.standing.proofs.StandingLaws.{seen_payload}
+use Rattle.standing.proofs.StandingLaws.{found_payload}
 
 is_some_lem : {A : Type 0} (o : Option A) (b : A) {a : A} → is_some o ≡ true → or_else o b ≡ a → o ≡ Some a
 is_some_lem None b t e = let z : ◌≡◌ {A = ℕ} 0 1 = cc in absurd (omega arith)
@@ -35,27 +35,29 @@ module _ {file : List ℕ} (v : Verified file) where
   function_read : (at : ℕ) → FunctionThere (payload file) at → FunctionRead file (function_of (payload file) at) at
   unfolding function_of instruction_of
   function_read at t =
-      let h = seen_payload v 10 at t.head in
       let alternative : ℕ → Alternative = λ k. alternative_of (byte_at (payload file) (at + 1)) (alternative_at (payload file)
       (alternative_offset at k)) in
       let instruction : ℕ → Instruction = λ i. instruction_of (instruction_at (payload file) (instruction_offset (code_offset (payload file)
       at) i)) in
       record {
-        there = h.0;
-        result = ap (λ (l : List ℕ). byte_at l at) h.1;
-        parameters = ap (λ (l : List ℕ). arguments_of (declaration_at l at)) h.1;
-        alternatives = ap (λ (l : List ℕ). byte_at l (at + 6)) h.1 ∙ sym (numbered_length alternative _ 0);
-        instructions = ap (λ (l : List ℕ). word_at l (at + 8)) h.1 ∙ sym (numbered_length instruction _ 0);
+        head = rw (found_payload v 10 head_at at t.head) (record {
+          result = refl;
+          parameters = refl;
+          alternatives = sym (numbered_length alternative _ 0);
+          instructions = sym (numbered_length instruction _ 0);
+        });
         bound = λ k a e.
             let n = numbered_is alternative (byte_at (payload file) (at + 6)) k e in
-            let r = seen_payload v 6 (alternative_offset at k) (t.alternative k n.0).0 in
-            (r.0, rw (r.1, arguments_length (payload file) at t.arity) (sym n.1));
+            rw (
+              found_payload v 6 alternative_at (alternative_offset at k) (t.alternative k n.0).0,
+              arguments_length (payload file) at t.arity,
+            ) (sym n.1);
         code = λ i ins e.
             let n = numbered_is instruction (word_at (payload file) (at + 8)) i e in
             let o = instruction_offset (code_offset (payload file) at) i in
             let there = t.instruction i n.0 in
-            let r = seen_payload v 4 o there.0 in
-            (r.0, rw r.1 (is_some_lem (operation (instruction_at (payload file) o)) Stop there.1 (sym n.1)));
+            rw (found_payload v 4 instruction_at o there.0)
+            (is_some_lem (operation (instruction_at (payload file) o)) Stop there.1 (sym n.1));
       }
 
 -- what an accepted file's parts are
@@ -81,8 +83,7 @@ open_exact file s e =
       constructors = λ c k h.
           let n = numbered_is (λ c. constructor_of (constructor_at (payload file) (constructor_offset c))) (byte_at (payload file) 2) c
           (subst (λ (x : Program). constructor x c ≡ Some k) (sym p.1) h) in
-          let r = seen_payload v 8 (constructor_offset c) (t.constructor c n.0).0 in
-          (r.0, rw r.1 (sym n.1));
+          rw (found_payload v 8 constructor_at (constructor_offset c) (t.constructor c n.0).0) (sym n.1);
       functions = λ g f h.
           let n = numbered_is (λ g. function_of (payload file) (head_offset (payload file) g)) (byte_at (payload file) 3) g
           (subst (λ (x : Program). function x g ≡ Some f) (sym p.1) h) in

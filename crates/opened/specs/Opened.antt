@@ -1,9 +1,9 @@
 -- The open program, and what its readers find of a program that the check accepts.
-use Rattle.std.specs.Prelude.{◌≡◌, List, true, ℕ, length}
-use Rattle.std.specs.Prelude.{Some, slice_get}
+use Rattle.std.specs.Prelude.{◌≡◌, List, ℕ, length, Some, slice_get, IsSomeAnd}
 use Rattle.std.specs.Borrow.{Bor}
 use Rattle.rules.specs.declared.answers.Counts.{Counts}
 use Rattle.rules.specs.declared.records.Alternative.{Alternative}
+use Rattle.rules.specs.declared.records.HeadRecord.{HeadRecord}
 use Rattle.rules.specs.declared.records.Instruction.{Instruction}
 use Rattle.rules.specs.Base.{Tried, found, refused}
 use Rattle.rules.specs.Container.{payload}
@@ -32,25 +32,25 @@ pub record Opens (blocks : Bor (List ℕ)) (p : OpenProgram) : Type 0 where
 
 ---- Where the check accepts, the readers give the program's records
 
--- those of function g, whose head stands at an offset
+-- what the head of a function says
+pub record HeadRead (h : HeadRecord) (f : Function) : Type 0 where
+  pub result : h.declaration.result ≡ f.result
+  pub parameters : arguments_of h.declaration ≡ f.parameters
+  pub alternatives : h.alternatives ≡ length f.bound
+  pub instructions : h.instructions ≡ length f.code
+
+-- the records of function g, whose head stands at an offset
 pub record FunctionRead (file : List ℕ) (f : Function) (at : ℕ) : Type 0 where
-  pub there : (head_found file at).there ≡ true
-  pub result : (head_found file at).head.declaration.result ≡ f.result
-  pub parameters : arguments_of (head_found file at).head.declaration ≡ f.parameters
-  pub alternatives : (head_found file at).head.alternatives ≡ length f.bound
-  pub instructions : (head_found file at).head.instructions ≡ length f.code
+  pub head : IsSomeAnd (head_found file at) (λ h. HeadRead h f)
   pub bound : (k : ℕ) (a : Alternative) → slice_get f.bound k ≡ Some a
-      → ((alternative_found file (alternative_offset at k)).there ≡ true)
-      × (alternative_of (arity f) (alternative_found file (alternative_offset at k)).alternative ≡ a)
+      → IsSomeAnd (alternative_found file (alternative_offset at k)) (λ r. alternative_of (arity f) r ≡ a)
   pub code : (i : ℕ) (ins : Instruction) → slice_get f.code i ≡ Some ins
-      → ((instruction_found file (instruction_offset (code_offset (payload file) at) i)).there ≡ true)
-      × (operation (instruction_found file (instruction_offset (code_offset (payload file) at) i)).instruction ≡ Some ins)
+      → IsSomeAnd (instruction_found file (instruction_offset (code_offset (payload file) at) i)) (λ r. operation r ≡ Some ins)
 
 pub record ProgramRead (file : List ℕ) (s : Program) : Type 0 where
   pub counts : counts_in file ≡ counts_of s
   pub constructors : (c : ℕ) (k : Constructor) → constructor s c ≡ Some k
-      → ((constructor_found file (constructor_offset c)).there ≡ true)
-      × (constructor_of (constructor_found file (constructor_offset c)).constructor ≡ k)
+      → IsSomeAnd (constructor_found file (constructor_offset c)) (λ r. constructor_of r ≡ k)
   pub functions : (g : ℕ) (f : Function) → function s g ≡ Some f → FunctionRead file f (head_offset (payload file) g)
 
 abbrev pub OpenExact : Type 0

@@ -4,11 +4,10 @@
 
 ghost use Rattle.std.specs.Prelude.{◌≡◌};
 ghost use Rattle.opened.specs.Opened.{Opens};
-ghost use Rattle.standing.specs.Found.{constructor_found, head_found, alternative_found, instruction_found};
+ghost use Rattle.standing.specs.Found.{found_at};
 
-use standing::{AlternativeFound, ConstructorFound, HeadFound, InstructionFound};
-
-mod counts; // counts.rt: the counts of a program that the check accepts
+use rules::answers::Counts;
+use standing::Record;
 
 // The lent blocks, and how many types, constructors and functions there are: 0 of each where the check refuses the blocks.
 #[derive(Clone, Copy)]
@@ -23,39 +22,23 @@ pub struct OpenProgram<'a> {
 pub fn open<'a>(blocks: &'a [u8]) -> OpenProgram<'a>
     ensures { Opens blocks.entry result }
 {
-    let c = counts::counts(blocks);
+    let none = Counts {
+        types: 0,
+        constructors: 0,
+        functions: 0,
+    };
+    let counts = verifier::check(blocks).unwrap_or(none);
     OpenProgram {
         blocks,
-        types: c.types,
-        constructors: c.constructors,
-        functions: c.functions,
+        types: counts.types,
+        constructors: counts.constructors,
+        functions: counts.functions,
     }
 }
 
-// The constructor at an offset.
-pub fn constructor<'a>(p: OpenProgram<'a>, at: usize) -> ConstructorFound
-    ensures { result ≡ constructor_found p.entry.blocks.now at }
+// The record at an offset, if it is there whole.
+pub fn find<'a, R: Record>(p: OpenProgram<'a>, at: usize) -> Option<R>
+    ensures { result ≡ found_at R.SIZE R.record_at p.entry.blocks.now at }
 {
-    standing::constructor_in(p.blocks, at)
-}
-
-// The function head at an offset.
-pub fn head<'a>(p: OpenProgram<'a>, at: usize) -> HeadFound
-    ensures { result ≡ head_found p.entry.blocks.now at }
-{
-    standing::head_in(p.blocks, at)
-}
-
-// The alternative at an offset.
-pub fn alternative<'a>(p: OpenProgram<'a>, at: usize) -> AlternativeFound
-    ensures { result ≡ alternative_found p.entry.blocks.now at }
-{
-    standing::alternative_in(p.blocks, at)
-}
-
-// The instruction at an offset.
-pub fn instruction<'a>(p: OpenProgram<'a>, at: usize) -> InstructionFound
-    ensures { result ≡ instruction_found p.entry.blocks.now at }
-{
-    standing::instruction_in(p.blocks, at)
+    standing::find(p.blocks, at)
 }
