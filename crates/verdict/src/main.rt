@@ -8,7 +8,7 @@ ghost use Rattle.rules.specs.Check.{verdict_of};
 ghost use Rattle.rules.specs.Memory.{front_written};
 ghost use Rattle.report.specs.Line.{verdict_line};
 
-use intake::{has_words, read_input, write_output};
+use intake::{Failure, has_words, read_input, say_failure, write_output};
 use report::line::write_verdict;
 
 // The line of the verdict on a program, at the front of a buffer. The answer is its length.
@@ -20,16 +20,12 @@ fn tell(file: &[u8], line: &mut [u8; 72]) -> usize
     write_verdict(verifier::check(file), line)
 }
 
-fn judge(rt: &(impl Input + Print + Eprint)) {
+fn judge(rt: &(impl Input + Print)) -> Result<(), Failure> {
     let mut buffer = [0u8; 32769];
-    let input = read_input(rt, &mut buffer);
-    if !input.read {
-        return;
-    }
-    let n = input.count;
+    let read = read_input(rt, &mut buffer)?;
     let mut line = [0u8; 72];
-    let count = tell(&buffer[..n], &mut line);
-    write_output(rt, &line[..count]);
+    let count = tell(&buffer[..read], &mut line);
+    write_output(rt, &line[..count])
 }
 
 // It takes no words: whoever names a file would wait for standard input.
@@ -38,5 +34,5 @@ fn main(rt: HostRuntime) {
         let _ = eprintln!(rt; "usage: verdict <FILE");
         return;
     }
-    judge(&rt);
+    say_failure(&rt, judge(&rt));
 }
