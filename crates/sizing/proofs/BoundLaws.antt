@@ -1,6 +1,7 @@
 -- A bound at forms, row by row.
 use mathlib.Core.Path.{◌≡◌, sym, ap, ◌∙◌, subst}
 use mathlib.Core.List.{List, ◌++◌}
+use Rattle.std.specs.Prelude.{Option}
 use Prim.Native.Nat.{ℕ, ◌+◌, ◌≤◌, ◌<◌}
 use native.Mathlib.Omega.{arith}
 use lib.ListN.{length, get_or, take, drop, length-append, take-append-drop}
@@ -14,8 +15,8 @@ use Rattle.rules.proofs.NumberedLaws.{numbered_length, numbered_there}
 use Rattle.sizing.specs.declared.bounds.Bound.{Bound}
 use Rattle.sizing.specs.declared.forms.Form as code
 use Rattle.sizing.specs.Put.{no_alternative}
-use Rattle.sizing.specs.Forms.{form_in, FormRight, FormMade}
-use Rattle.sizing.specs.Bounds.{row_in, bound_in}
+use Rattle.sizing.specs.Forms.{form_in, FormRight, Formed, FormMade}
+use Rattle.sizing.specs.Bounds.{rows_in, row_in, bound_in}
 use Rattle.sizing.proofs.RightLaws.{form_length}
 use Rattle.sizing.proofs.BuildLaws.{flat_next, flat_append}
 
@@ -29,15 +30,15 @@ pub record Joining (bytes : List ℕ) (n : ℕ) (b : Bound) (forms : List Form) 
   pub same : form_in x ≡ into_bound (take i (bound_in bytes n b)) forms
 
 module _ (bytes : List ℕ) (n : ℕ) (b : Bound) where
-  bound_length : length (bound_in bytes n b) ≡ b.count
-  bound_length = numbered_length (λ k. alternative_of n (row_in bytes b k)) b.count 0
+  bound_length : length (bound_in bytes n b) ≡ (rows_in b)
+  bound_length = numbered_length (λ k. alternative_of n (row_in bytes b k)) (rows_in b) 0
 
-  bound_at : (i : ℕ) → i < b.count → get_or (bound_in bytes n b) i no_alternative ≡ alternative_of n (row_in bytes b i)
+  bound_at : (i : ℕ) → i < (rows_in b) → get_or (bound_in bytes n b) i no_alternative ≡ alternative_of n (row_in bytes b i)
   bound_at i h =
-      get_d_element no_alternative (bound_in bytes n b) i (numbered_there (λ k. alternative_of n (row_in bytes b k)) b.count i h)
+      get_d_element no_alternative (bound_in bytes n b) i (numbered_there (λ k. alternative_of n (row_in bytes b k)) (rows_in b) i h)
 
   module _ (forms : List Form) where
-    bound_next : (i : ℕ) → i < b.count → into_bound (take (i + 1) (bound_in bytes n b)) forms
+    bound_next : (i : ℕ) → i < (rows_in b) → into_bound (take (i + 1) (bound_in bytes n b)) forms
         ≡ into_bound (take i (bound_in bytes n b)) forms ++ row_form n (row_in bytes b i) forms
     unfolding into_bound alternative_of
     bound_next i h =
@@ -58,10 +59,10 @@ module _ (bytes : List ℕ) (n : ℕ) (b : Bound) where
         omega arith
 
     -- one row alone
-    pub only_row : b.count ≡ 1 → {y : code.Form} → FormMade y (row_form n (row_in bytes b 0) forms)
+    pub only_row : rows_in b ≡ 1 → (y : Option code.Form) → FormMade y (row_form n (row_in bytes b 0) forms)
         → FormMade y (into_bound (bound_in bytes n b) forms)
     unfolding into_bound flat_map
-    only_row e {y} m =
+    only_row e y m =
         let l = bound_length in
         let t : take 1 (bound_in bytes n b) ≡ bound_in bytes n b = take_all 1 (bound_in bytes n b) (omega arith) in
         let is : into_bound (bound_in bytes n b) forms ≡ row_form n (row_in bytes b 0) forms =
@@ -73,26 +74,22 @@ module _ (bytes : List ℕ) (n : ℕ) (b : Bound) where
     joining_start x p e = record { right = p; some = λ z. absurd (omega arith); same = ap (λ (k : ℕ). take k x.alternatives) e }
 
 module _ {bytes : List ℕ} {n : ℕ} {b : Bound} {forms : List Form} {i : ℕ} {x : code.Form} (j : Joining bytes n b forms i x) where
-  module _ (h : i < b.count) {y : code.Form} (m : FormMade y (row_form n (row_in bytes b i) forms)) where
-    pub joining_many : y.count ≡ 0 → 16 < length (into_bound (bound_in bytes n b) forms)
-    joining_many z =
-        let g = m.many z in
+  module _ (h : i < rows_in b) where
+    pub joining_many : 16 < length (row_form n (row_in bytes b i) forms) → 16 < length (into_bound (bound_in bytes n b) forms)
+    joining_many g =
         let e = ap length (bound_next bytes n b forms i h)
         ∙ length-append (into_bound (take i (bound_in bytes n b)) forms) (row_form n (row_in bytes b i) forms) in
         let l = bound_grows bytes n b forms (i + 1) in
         omega arith
 
-    module _ (some_made : y.count ≡ 0 → ⊥) where
-      made : FormRight y × (form_in y ≡ row_form n (row_in bytes b i) forms)
-      made = m.right (omega (arith, some_made))
-
+    module _ {y : code.Form} (m : Formed y (row_form n (row_in bytes b i) forms)) where
       pub joining_over : 16 < x.count + y.count → 16 < length (into_bound (bound_in bytes n b) forms)
       joining_over o =
           let e = ap length (bound_next bytes n b forms i h ∙ ap (λ (l : Form). l ++ row_form n (row_in bytes b i) forms) (sym j.same)
-          ∙ ap (λ (l : Form). form_in x ++ l) (sym made.1))
+          ∙ ap (λ (l : Form). form_in x ++ l) (sym m.same))
           ∙ length-append (form_in x) (form_in y) in
           let a = form_length x j.right in
-          let c = form_length y made.0 in
+          let c = form_length y m.right in
           let l = bound_grows bytes n b forms (i + 1) in
           omega arith
 
@@ -101,15 +98,14 @@ module _ {bytes : List ℕ} {n : ℕ} {b : Bound} {forms : List Form} {i : ℕ} 
       joining_next z p c e =
           record {
             right = p;
-            some = λ g. omega (arith, some_made);
+            some = λ g. omega (arith, m.some);
             same =
                 e ∙ ap (λ (l : Form). l ++ form_in y) j.same
-                ∙ ap (λ (l : Form). into_bound (take i (bound_in bytes n b)) forms ++ l) made.1 ∙ sym (bound_next bytes n b forms i h);
+                ∙ ap (λ (l : Form). into_bound (take i (bound_in bytes n b)) forms ++ l) m.same ∙ sym (bound_next bytes n b forms i h);
           }
 
-  pub joining_end : i ≡ b.count → 0 < b.count → FormMade x (into_bound (bound_in bytes n b) forms)
+  pub joining_end : i ≡ rows_in b → 0 < rows_in b → Formed x (into_bound (bound_in bytes n b) forms)
   joining_end e s =
-      let c = j.some (omega arith) in
       let l = bound_length bytes n b in
       let t : take i (bound_in bytes n b) ≡ bound_in bytes n b = take_all i (bound_in bytes n b) (omega arith) in
-      record { many = λ z. absurd (omega arith); right = λ g. (j.right, j.same ∙ ap (λ (a : List Alternative). into_bound a forms) t) }
+      record { right = j.right; some = j.some (omega arith); same = j.same ∙ ap (λ (a : List Alternative). into_bound a forms) t }

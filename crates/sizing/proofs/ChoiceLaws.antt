@@ -14,7 +14,7 @@ use Rattle.rules.specs.declared.records.Alternative.{Alternative}
 use Rattle.rules.specs.Forms.{Form, added, flat_map}
 use Rattle.sizing.specs.declared.forms.Form as code
 use Rattle.sizing.specs.Put.{Bounded, AllBounded, no_alternative}
-use Rattle.sizing.specs.Forms.{form_in, FormRight, Entry, FormMade, choices}
+use Rattle.sizing.specs.Forms.{form_in, FormRight, Entry, Formed, choices}
 use Rattle.sizing.proofs.ListLaws.{get_d_of_map, take_stored}
 use Rattle.sizing.proofs.RightLaws.{form_length, form_at}
 use Rattle.sizing.proofs.BuildLaws.{flat_length, flat_below, below_get, below_wide, choices_some, some_made}
@@ -108,28 +108,24 @@ module _ (m : ℕ) (form rest : code.Form) (h : Entry form) (r : FormRight rest)
             ∙ rw (k, form_at form h.right (i / rest.count) choice_first, form_at rest r (i % rest.count) choice_second)
 
   pub choosing_end : (m ≡ 0 → ⊥) → form.count * rest.count ≤ 16 → (x : code.Form) → Choosing m form rest (form.count * rest.count) x
-      → FormMade (record { alternatives = x.alternatives; count = form.count * rest.count }) (choices m (form_in form) (form_in rest))
+      → Formed (record { alternatives = x.alternatives; count = form.count * rest.count }) (choices m (form_in form) (form_in rest))
   unfolding all_choices
   choosing_end n few x c =
       let is : take (form.count * rest.count) x.alternatives ≡ all_choices m form rest = let z = many in
       c.same ∙ take_all (form.count * rest.count) (all_choices m form rest) (omega arith) in
       record {
-        many = λ z. absurd (some_made form.count rest.count h.some p z);
-        right = λ g. (
-          record {
-            few = few;
-            long = c.long;
-            wide =
-                rw is (below_wide (32768 + m * 15) (16777216 + m * 131072) (all_choices m form rest)
-                (flat_below m 15 131072 32768 16777216 (form_in rest) (form_in form) h.below b));
-          },
-          is ∙ sym (choices_some m (form_in form) (form_in rest) n),
-        );
+        right = record {
+          few = few;
+          long = c.long;
+          wide =
+              rw is (below_wide (32768 + m * 15) (16777216 + m * 131072) (all_choices m form rest)
+              (flat_below m 15 131072 32768 16777216 (form_in rest) (form_in form) h.below b));
+        };
+        some = omega (arith, some_made form.count rest.count h.some p);
+        same = is ∙ sym (choices_some m (form_in form) (form_in rest) n);
       }
 
-  pub choosing_many : (m ≡ 0 → ⊥) → 16 < form.count * rest.count → (x : code.Form) → x.count ≡ 0
-      → FormMade x (choices m (form_in form) (form_in rest))
+  pub choosing_many : (m ≡ 0 → ⊥) → 16 < form.count * rest.count → 16 < length (choices m (form_in form) (form_in rest))
   unfolding all_choices
-  choosing_many n g x z =
-      let e = ap length (choices_some m (form_in form) (form_in rest) n) in let l = many in
-      record { many = λ _. omega arith; right = λ q. absurd (omega arith) }
+  choosing_many n g =
+      let e = ap length (choices_some m (form_in form) (form_in rest) n) in let l = many in omega arith

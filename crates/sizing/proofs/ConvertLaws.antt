@@ -24,7 +24,7 @@ use Rattle.rules.proofs.ListLaws.{all_mapped, stored_each}
 use Rattle.rules.proofs.NumberedLaws.{numbered_all}
 use Rattle.sizing.specs.declared.bounds.Bound.{Bound}
 use Rattle.sizing.specs.Forms.{form_in, no_form}
-use Rattle.sizing.specs.Bounds.{row_in, bound_in, BoundRight}
+use Rattle.sizing.specs.Bounds.{rows_in, row_in, bound_in, BoundRight}
 use Rattle.sizing.specs.Right.{own_at, shape_in, SavedRight, LineRight}
 use Rattle.sizing.specs.Steps.{EntryAsks, EntryIs, FormsAre, own_row, OwnAsks, own_after, OwnIs}
 use Rattle.sizing.proofs.SplitLaws.{form_through, numbered_le, split_at}
@@ -70,16 +70,16 @@ row_tidy n a few r =
 -- the bound of a function with n parameters, whose rows are padded by zeros
 pub record OwnBound (bytes : List ℕ) (n : ℕ) (b : Bound) : Type 0 where
   pub right : BoundRight bytes b
-  pub fits : (k : ℕ) → k < b.count → RowFits n (alternative_of n (row_in bytes b k))
-  pub padded : (k : ℕ) → k < b.count → own_row (row_in bytes b k) ≡ wide_row (alternative_of n (row_in bytes b k))
+  pub fits : (k : ℕ) → k < (rows_in b) → RowFits n (alternative_of n (row_in bytes b k))
+  pub padded : (k : ℕ) → k < (rows_in b) → own_row (row_in bytes b k) ≡ wide_row (alternative_of n (row_in bytes b k))
 
 pub rows_fit : {bytes : List ℕ} {n : ℕ} {b : Bound} → OwnBound bytes n b → {bound : List Alternative} → bound_in bytes n b ≡ bound
     → All (RowFits n) bound
 rows_fit {bytes} {n} {b} o is =
-    rw (← is) (numbered_all (λ k. alternative_of n (row_in bytes b k)) b.count 0 (λ k l. rw (zero-add k) (o.fits k l)))
+    rw (← is) (numbered_all (λ k. alternative_of n (row_in bytes b k)) (rows_in b) 0 (λ k l. rw (zero-add k) (o.fits k l)))
 
 -- one more entry has its form
-pub forms_next : {file : List ℕ} {st : Saved} {n : ℕ} {fs : List Form} {x : Form} → FormsAre file st n fs → n < 20
+pub forms_next : {file : List ℕ} {st : Saved} {n : ℕ} {fs : List Form} {x : Form} → FormsAre file st n fs → n < 16
     → EntryIs file st n x → FormsAre file st (n + 1) (set fs n x)
 forms_next {file} {st} {n} {fs} {x} a l e =
     let long = a.long in
@@ -202,10 +202,10 @@ module _ (file : List ℕ) (f : Function) (st : Saved) (r : SavedRight (program_
         own_is =
             w.same
             ∙ numbered_same (own_after file b st.splits)
-            (λ k. carried s (splits_in st) (wide_row (alternative_of (arity f) (row_in (payload file) b k)))) b.count
+            (λ k. carried s (splits_in st) (wide_row (alternative_of (arity f) (row_in (payload file) b k)))) (rows_in b)
             (λ k h. ap (carried s (splits_in st)) (o.padded k h))
             ∙ sym (map_numbered (λ a. carried s (splits_in st) (wide_row a)) (λ k. alternative_of (arity f) (row_in (payload file) b k))
-            b.count 0)
+            (rows_in b) 0)
             ∙ ap (map (λ a. carried s (splits_in st) (wide_row a))) is
             ∙ sym (map-map (carried s (splits_in st)) wide_row f.bound)
             ∙ ap (map (carried s (splits_in st))) (sym (own_rows s (arity f) f.bound (rows_fit o is)))

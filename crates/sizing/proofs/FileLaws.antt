@@ -27,8 +27,8 @@ use Rattle.rules.proofs.NumberedLaws.{numbered_length, numbered_is, numbered_the
 use Rattle.rules.proofs.RecordLaws.{arguments_length}
 use Rattle.rules.proofs.ContainerLaws.{byte_small}
 use Rattle.sizing.specs.declared.bounds.Bound.{Bound}
-use Rattle.sizing.specs.Bounds.{row_in, bound_in, BoundRight}
-use Rattle.sizing.specs.Routines.{BoundIs}
+use Rattle.sizing.specs.Bounds.{rows_in, row_in, bound_in, BoundRight}
+use Rattle.sizing.specs.Routines.{declared_bound}
 use Rattle.sizing.specs.Walking.{Walking}
 use Rattle.sizing.proofs.ListLaws.{element_at, numbered_same}
 use Rattle.sizing.proofs.OwnLaws.{widened_past}
@@ -141,19 +141,22 @@ module _ {file heads : List ℕ} (w : Walking file heads) where
 
     ---- The bound
 
-    module _ (b : Bound) (is : BoundIs (payload file) (head_offset (payload file) g) b) where
+    module _ (b : Bound) (is : b ≡ declared_bound (payload file) (head_offset (payload file) g)) where
       row_is : (i : ℕ) → row_in (payload file) b i ≡ alternative_at (payload file) (alternative_offset (head_offset (payload file) g) i)
       unfolding row_in
-      row_is i = rw (is.read, is.head)
+      row_is i = rw is
 
-      counted_in : (i : ℕ) → i < b.count → i < byte_at (payload file) (head_offset (payload file) g + 6)
-      counted_in i l = rw is.count at l
+      rows_counted : rows_in b ≡ byte_at (payload file) (head_offset (payload file) g + 6)
+      rows_counted = ap rows_in is
 
-      row_right : (i : ℕ) → i < b.count → alternative_right (byte_at (payload file) (head_offset (payload file) g + 1))
+      counted_in : (i : ℕ) → i < rows_in b → i < byte_at (payload file) (head_offset (payload file) g + 6)
+      counted_in i l = rw is at l
+
+      row_right : (i : ℕ) → i < rows_in b → alternative_right (byte_at (payload file) (head_offset (payload file) g + 1))
           (alternative_at (payload file) (alternative_offset (head_offset (payload file) g) i)) ≡ true
       row_right i l = (here.alternative i (counted_in i l)).1
 
-      small_at : (i : ℕ) → i < b.count → (k : ℕ)
+      small_at : (i : ℕ) → i < rows_in b → (k : ℕ)
           → get_or (four_at (payload file) (alternative_offset (head_offset (payload file) g) i)) k 0 ≤ 15
       unfolding alternative_right
       small_at i l k =
@@ -174,11 +177,11 @@ module _ {file heads : List ℕ} (w : Walking file heads) where
 
       pub bound_right : BoundRight (payload file) b
       bound_right =
-          let c = is.count in let lo = here.some_alternatives in let hi = here.few_alternatives in
+          let c = rows_counted in let lo = here.some_alternatives in let hi = here.few_alternatives in
           record {
             some = omega arith;
             few = omega arith;
-            there = λ i l _. rw is.head (here.alternative i (counted_in i l)).0;
+            there = λ i l. rw is (here.alternative i (counted_in i l)).0;
             each = λ i l. rw (row_is i) (record { four = refl; small = small_at i l; constant = constant_small i });
           }
 
@@ -186,7 +189,7 @@ module _ {file heads : List ℕ} (w : Walking file heads) where
       unfolding function_of
       rows_are =
           let n = byte_at (payload file) (head_offset (payload file) g + 1) in
-          ap (numbered (λ k. alternative_of n (row_in (payload file) b k)) 0) is.count
+          ap (numbered (λ k. alternative_of n (row_in (payload file) b k)) 0) rows_counted
           ∙ numbered_same (λ k. alternative_of n (row_in (payload file) b k))
           (λ k. alternative_of n (alternative_at (payload file) (alternative_offset (head_offset (payload file) g) k)))
           (byte_at (payload file) (head_offset (payload file) g + 6)) (λ k l. ap (alternative_of n) (row_is k))

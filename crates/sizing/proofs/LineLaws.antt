@@ -6,8 +6,8 @@ use Rattle.std.specs.Prelude.{Some}
 use Prim.Native.Nat.{ℕ, suc, ◌+◌, ◌-◌, ◌≤◌, ◌<◌}
 use native.Mathlib.Omega.{arith}
 use native.Mathlib.Nat.{le_trans}
-use lib.ListN.{length, get_or, set, take, drop, replicate, length-map, length-set}
-use lib.Seq.{get_or-take, length-take-le, take-take}
+use lib.ListN.{length-drop, length, get_or, set, take, drop, replicate, length-map, length-set}
+use lib.Seq.{get_or-drop, get_or-take, length-take-le, take-take}
 use borrow.Author.Tests.{le-leb, lt-leb}
 use Rattle.rules.specs.declared.records.Alternative.{Alternative}
 use Rattle.rules.specs.declared.records.Instruction.{Instruction}
@@ -24,7 +24,7 @@ use Rattle.rules.specs.Shapes.{Shape, with_stack, covered_at, enter, shape_from,
 use Rattle.rules.proofs.ListLaws.{false_true, and_left, and_right, stored_each}
 use Rattle.sizing.specs.declared.forms.Form.{Form}
 use Rattle.sizing.specs.Put.{Wide, AllWide, Bounded, AllBounded}
-use Rattle.sizing.specs.Forms.{form_in, Entry, FormMade, no_form}
+use Rattle.sizing.specs.Forms.{form_in, forms_in, Entry, Formed, no_form}
 use Rattle.sizing.specs.Right.{Held, LineRight}
 use Rattle.sizing.proofs.ListLaws.{all_holds, all_last_fails, element_at, get_d_of_map, map_take, map_drop, drop_take, take_stored}
 use Rattle.sizing.proofs.CoverLaws.{matches_under}
@@ -132,17 +132,30 @@ module _ {s : Program} (n : ℕ) {f : Function} {sh : Shape} {own : Form} {stack
             h) (omega arith) l r.same (r.held k h),
       )
 
+  -- the top m entries
+  abbrev pub top : ℕ → List Form
+  top m = take (height - (height - m)) (drop (height - m) stack)
+
+  pub top_length : (m : ℕ) → m ≤ height → length (top m) ≡ m
+  top_length m h =
+      let a = r.long in let b = r.high in
+      let d = length-drop (height - m) stack in
+      length-take-le (height - (height - m)) (drop (height - m) stack) (omega arith) ∙ omega arith
+
+  pub top_at : (m i : ℕ) → i < m → m ≤ height → get_or (top m) i no_form ≡ get_or stack (height - m + i) no_form
+  top_at m i l h =
+      get_or-take (height - (height - m)) (drop (height - m) stack) i no_form (omega arith) ∙ get_or-drop (height - m) stack i no_form
+
   -- the forms of the top m entries, and of those below
-  arguments_are : (m : ℕ) → m ≤ height → map (form_of s) (drop (length sh.stack - m) sh.stack)
-      ≡ map form_in (take m (drop (height - m) stack))
+  arguments_are : (m : ℕ) → m ≤ height → map (form_of s) (drop (length sh.stack - m) sh.stack) ≡ forms_in (top m)
   arguments_are m h =
-      let e : height ≡ height - m + m = omega arith in
+      let e : height ≡ height - m + (height - (height - m)) = omega arith in
       map_drop (form_of s) (length sh.stack - m) sh.stack
       ∙ ap (λ (j : ℕ). drop (j - m) (map (form_of s) sh.stack)) stack_length
       ∙ ap (drop (height - m)) r.same
       ∙ sym (map_drop form_in (height - m) (take height stack))
       ∙ ap (λ (j : ℕ). map form_in (drop (height - m) (take j stack))) e
-      ∙ ap (map form_in) (drop_take (height - m) m stack)
+      ∙ ap (map form_in) (drop_take (height - m) (height - (height - m)) stack)
 
   rest_are : (m : ℕ) → map (form_of s) (take (length sh.stack - m) sh.stack) ≡ map form_in (take (height - m) stack)
   rest_are m =
@@ -165,45 +178,41 @@ module _ {s : Program} (n : ℕ) {f : Function} {sh : Shape} {own : Form} {stack
   entered_shape m symbol = with_stack sh (push (take (length sh.stack - m) sh.stack) (entered m symbol))
 
   -- a build or a call: form is the form of the new entry, x what the code made of it
-  module _ (i m : ℕ) (symbol : Symbol) (h : m ≤ height) (form : forms.Form) (is : form_of s (entered m symbol) ≡ form) (x : Form)
-      (mk : FormMade x form) where
-    pub enter_large : x.count ≡ 0 → enter s n f i sh m symbol ≡ refused (refusal 9 n i)
+  module _ (i m : ℕ) (symbol : Symbol) (h : m ≤ height) (form : forms.Form) (is : form_of s (entered m symbol) ≡ form) where
+    pub enter_large : 16 < length form → enter s n f i sh m symbol ≡ refused (refusal 9 n i)
     unfolding enter
-    enter_large z = let g = mk.many z in rw (split_is m h, is, lt-leb (length form) 16 g)
+    enter_large g = rw (split_is m h, is, lt-leb (length form) 16 g)
 
-    pub enter_goes : (x.count ≡ 0 → ⊥) → enter s n f i sh m symbol ≡ found ((suc i, entered_shape m symbol) ∷ [])
-    unfolding enter
-    enter_goes z =
-        let q = mk.right (omega (arith, z)) in
-        let e = form_length x q.0 in
-        let g : length form ≤ 16 = let a = ap length q.1 in let b = q.0.few in omega arith in
-        rw (split_is m h, is, le-leb (length form) 16 g)
+    module _ (x : Form) (mk : Formed x form) where
+      pub enter_goes : enter s n f i sh m symbol ≡ found ((suc i, entered_shape m symbol) ∷ [])
+      unfolding enter
+      enter_goes =
+          let e = form_length x mk.right in
+          let g : length form ≤ 16 = let a = ap length mk.same in let b = mk.right.few in omega arith in
+          rw (split_is m h, is, le-leb (length form) 16 g)
 
-    pub enter_line : (x.count ≡ 0 → ⊥) → height - m < 16 → covers (form_in own) (form_in x) ≡ true
-        → LineRight s f (entered_shape m symbol) own (set stack (height - m) x) (height - m + 1)
-    enter_line z l c =
-        let q = mk.right (omega (arith, z)) in
-        pushed (take (length sh.stack - m) sh.stack) (entered m symbol) (height - m) x (is ∙ sym q.1) (omega arith) l (rest_are m)
-        (record { right = q.0; some = omega (arith, z); covered = c })
+      pub enter_line : height - m < 16 → covers (form_in own) (form_in x) ≡ true
+          → LineRight s f (entered_shape m symbol) own (set stack (height - m) x) (height - m + 1)
+      enter_line l c =
+          pushed (take (length sh.stack - m) sh.stack) (entered m symbol) (height - m) x (is ∙ sym mk.same) (omega arith) l (rest_are m)
+          (record { right = mk.right; some = mk.some; covered = c })
 
-    pub enter_refused : (x.count ≡ 0 → ⊥) → covers (form_in own) (form_in x) ≡ false → (j : ℕ) (ins : Instruction)
-        → shape_rule s n f j ins (entered_shape m symbol) ≡ refused (refusal 10 n j)
-    enter_refused z c j ins =
-        let q = mk.right (omega (arith, z)) in
-        uncovered (take (length sh.stack - m) sh.stack) (entered m symbol) (height - m) x (is ∙ sym q.1) c j ins
+      pub enter_refused : covers (form_in own) (form_in x) ≡ false → (j : ℕ) (ins : Instruction)
+          → shape_rule s n f j ins (entered_shape m symbol) ≡ refused (refusal 10 n j)
+      enter_refused c j ins =
+          uncovered (take (length sh.stack - m) sh.stack) (entered m symbol) (height - m) x (is ∙ sym mk.same) c j ins
 
   -- the form of a build, and of a call
   pub build_form : (c : ℕ) (k : Constructor) → constructor s c ≡ Some k → length k.arguments ≤ height
       → form_of s (entered (length k.arguments) (built c))
-      ≡ substituted (replicate (length k.arguments) 1) k.weight
-      (map form_in (take (length k.arguments) (drop (height - length k.arguments) stack)))
+      ≡ substituted (replicate (length k.arguments) 1) k.weight (forms_in (top (length k.arguments)))
   unfolding form_of forms_of built_form
   build_form c k e h =
       rw e (ap (substituted (replicate (length k.arguments) 1) k.weight)
       (forms_list s (drop (length sh.stack - length k.arguments) sh.stack) ∙ arguments_are (length k.arguments) h))
 
   pub call_form : (g : ℕ) (k : Function) → function s g ≡ Some k → arity k ≤ height
-      → form_of s (entered (arity k) (called g)) ≡ into_bound k.bound (map form_in (take (arity k) (drop (height - arity k) stack)))
+      → form_of s (entered (arity k) (called g)) ≡ into_bound k.bound (forms_in (top (arity k)))
   unfolding form_of forms_of called_form
   call_form g k e h =
       rw e (ap (into_bound k.bound) (forms_list s (drop (length sh.stack - arity k) sh.stack) ∙ arguments_are (arity k) h))

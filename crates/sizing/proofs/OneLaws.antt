@@ -10,7 +10,7 @@ use Rattle.rules.specs.Lists.{l[], ◌l∷◌}
 use Rattle.rules.specs.Forms.{added, flat_map}
 use Rattle.sizing.specs.declared.forms.Form as code
 use Rattle.sizing.specs.Put.{Wide, Bounded, AllBounded, no_alternative}
-use Rattle.sizing.specs.Forms.{form_in, FormRight, Entry, FormMade, choices}
+use Rattle.sizing.specs.Forms.{form_in, FormRight, Entry, Formed, choices}
 use Rattle.sizing.proofs.PutLaws.{added_wide}
 use Rattle.sizing.proofs.BuildLaws.{below_get}
 
@@ -34,28 +34,27 @@ module _ {m k : ℕ} (x : code.Form) (r : FormRight x) (one : x.count ≡ 1) (b 
 pub one_made : (m : ℕ) (form rest : code.Form) {p : Alternative} → 0 < m → Entry form → FormRight rest → form.count ≡ 1 → rest.count ≡ 1
     → Wide (get_or form.alternatives 0 no_alternative) → Wide (get_or rest.alternatives 0 no_alternative)
     → p ≡ added m (get_or form.alternatives 0 no_alternative) (get_or rest.alternatives 0 no_alternative)
-    → FormMade (record { alternatives = set rest.alternatives 0 p; count = rest.count }) (choices m (form_in form) (form_in rest))
+    → Formed (record { alternatives = set rest.alternatives 0 p; count = rest.count }) (choices m (form_in form) (form_in rest))
 one_made m form rest {p} h e r one single v w is =
     let long = length-set rest.alternatives 0 p ∙ r.long in
     let same : take rest.count (set rest.alternatives 0 p) ≡ p ∷ [] =
     first (set rest.alternatives 0 p) rest.count long single
     ∙ ap (λ (y : Alternative). y ∷ []) (get_or-set_same rest.alternatives 0 p no_alternative (omega (arith, r.long))) in
     record {
-      many = λ z. absurd (omega arith);
-      right = λ g. (
-        record {
-          few = r.few;
-          long = long;
-          wide =
-              rw same (◌l∷◌ {x = p} (rw is (added_wide m (get_or form.alternatives 0 no_alternative)
-              (get_or rest.alternatives 0 no_alternative) v w)) l[]);
-        },
-        same ∙ ap (λ (y : Alternative). y ∷ []) is
-            ∙ rw (
-              only form e.right one,
-              only rest r single,
-              one_choice m (get_or form.alternatives 0 no_alternative)
-                  (get_or rest.alternatives 0 no_alternative) h,
-            ),
-      );
+      right = record {
+        few = r.few;
+        long = long;
+        wide =
+            rw same (◌l∷◌ {x = p} (rw is (added_wide m (get_or form.alternatives 0 no_alternative)
+            (get_or rest.alternatives 0 no_alternative) v w)) l[]);
+      };
+      some = omega (arith, single);
+      same =
+          same ∙ ap (λ (y : Alternative). y ∷ []) is
+          ∙ rw (
+            only form e.right one,
+            only rest r single,
+            one_choice m (get_or form.alternatives 0 no_alternative)
+                (get_or rest.alternatives 0 no_alternative) h,
+          );
     }

@@ -1,14 +1,15 @@
 -- The function's own bound at its parameters' shapes, and that every variable of a path is covered by it.
 use mathlib.Core.Path.{◌≡◌, refl, sym, ap, ◌∙◌}
 use mathlib.Core.List.{List, [], ◌∷◌, ◌++◌, map, map-map}
-use mathlib.Core.Bool.{true}
+use mathlib.Core.Bool.{Bool, true, false}
 use Prim.Native.Nat.{ℕ, zero, suc, ◌+◌, ◌≤◌, ◌<◌}
 use native.Mathlib.Omega.{arith}
 use native.Mathlib.Nat.{add-zero, zero-add}
-use lib.ListN.{length, get_or, take, drop, replicate, get_or-eq_default}
-use lib.Seq.{take-nil}
-use lib.Dec.{eqb}
-use borrow.Author.Tests.{ne_eqb}
+use lib.ListN.{length, get_or, set, take, drop, replicate, length-set, get_or-eq_default}
+use lib.Seq.{take-nil, get_or-set_same, get_or-set_other}
+use lib.Dec.{eqb, ltb}
+use borrow.Author.Count.{below_more}
+use borrow.Author.Tests.{ne_eqb, ltb-true, ltb-false}
 use Rattle.rules.specs.declared.records.Alternative.{Alternative}
 use Rattle.rules.specs.Base.{all, is_zero}
 use Rattle.rules.specs.Expressions.{Expression, variables}
@@ -138,20 +139,32 @@ widened_at k (suc c ∷ cs) w (suc i) h =
     ∙ rw (variable_other k (k + suc i) (λ z. omega arith), e, widened_at (suc k) cs w i (omega arith)) (omega arith)
 
 -- as the code has it
-pub widened_four : (cs : List ℕ) (w : ℕ) → length cs ≡ 4
-    → record { coefficients = get_or cs 0 0 ∷ get_or cs 1 0 ∷ get_or cs 2 0 ∷ get_or cs 3 0 ∷ replicate 12 0; constant = w } ≡ widened 0
-    cs w
-widened_four cs w e =
-    alternative_ext (record { coefficients = get_or cs 0 0 ∷ get_or cs 1 0 ∷ get_or cs 2 0 ∷ get_or cs 3 0 ∷ replicate 12 0; constant = w })
-    (widened 0 cs w) refl (widened_wide 0 cs w)
-    (λ i. go i ∙ sym (rw (zero-add i) at (widened_at 0 cs w i (omega arith)))) (sym (widened_constant 0 cs w))
+-- the first four of sixteen coefficients, as the code has them
+pub record FirstFour (cs x : List ℕ) (i : ℕ) : Type 0 where
+  pub long : length x ≡ 16
+  pub done : (k : ℕ) → k < i → get_or x k 0 ≡ get_or cs k 0
+  pub left : (k : ℕ) → i ≤ k → get_or x k 0 ≡ 0
+
+pub four_first : {cs : List ℕ} → FirstFour cs (replicate 16 0) 0
+four_first = record { long = refl; done = λ k l. absurd (omega arith); left = λ k l. zero_at 16 k }
+
+pub four_next : {cs x : List ℕ} {i : ℕ} → i < 4 → FirstFour cs x i → FirstFour cs (set x i (get_or cs i 0)) (i + 1)
+four_next {cs} {x} {i} h f = record {
+  long = length-set x i (get_or cs i 0) ∙ f.long;
+  done = below_more (λ k. get_or (set x i (get_or cs i 0)) k 0 ≡ get_or cs k 0) i
+      (λ k l. get_or-set_other x i k (get_or cs i 0) 0 (λ e. omega arith) ∙ f.done k l)
+      (let l = f.long in get_or-set_same x i (get_or cs i 0) 0 (omega arith));
+  left = λ k l. get_or-set_other x i k (get_or cs i 0) 0 (λ e. omega arith) ∙ f.left k (omega arith);
+}
+
+pub four_end : (cs x : List ℕ) (w : ℕ) → length cs ≡ 4 → FirstFour cs x 4 → record { coefficients = x; constant = w } ≡ widened 0 cs w
+four_end cs x w e f =
+    alternative_ext (record { coefficients = x; constant = w }) (widened 0 cs w) f.long (widened_wide 0 cs w)
+    (λ i. go i (ltb i 4) refl ∙ sym (rw (zero-add i) at (widened_at 0 cs w i (omega arith)))) (sym (widened_constant 0 cs w))
   where
-    go : (i : ℕ) → get_or (get_or cs 0 0 ∷ get_or cs 1 0 ∷ get_or cs 2 0 ∷ get_or cs 3 0 ∷ replicate 12 0) i 0 ≡ get_or cs i 0
-    go zero = refl
-    go (suc zero) = refl
-    go (suc (suc zero)) = refl
-    go (suc (suc (suc zero))) = refl
-    go (suc (suc (suc (suc i)))) = zero_at 12 i ∙ sym (get_or-eq_default cs 0 (omega arith))
+    go : (i : ℕ) (t : Bool) → ltb i 4 ≡ t → get_or x i 0 ≡ get_or cs i 0
+    go i true t = f.done i (ltb-true i 4 t)
+    go i false t = let l = ltb-false i 4 t in f.left i l ∙ sym (get_or-eq_default cs 0 (omega arith))
 
 -- coefficients past the first n are 0
 pub widened_past : (n k : ℕ) (cs : List ℕ) (w : ℕ) → all is_zero (drop n cs) ≡ true → widened k cs w ≡ widened k (take n cs) w

@@ -1,14 +1,13 @@
 -- The straight line from a first build or call on: what is left of the walk stays the same from instruction to instruction.
 use mathlib.Core.Path.{◌≡◌, refl, sym, ap, ◌∙◌}
-use mathlib.Core.List.{List, [], ◌∷◌, map, append-nil}
-use Rattle.std.specs.Prelude.{Some}
+use mathlib.Core.List.{List, [], ◌∷◌, append-nil}
+use Rattle.std.specs.Prelude.{Some, None}
 use mathlib.Core.Bool.{Bool, true, false}
 use Prim.Native.Nat.{ℕ, zero, suc, ◌+◌, ◌-◌, ◌≤◌, ◌<◌}
 use native.Mathlib.Omega.{arith}
 use native.Mathlib.Numerals.{add-one}
 use native.Mathlib.Nat.{le_trans, le_refl}
-use lib.ListN.{length, get_or, set, take, drop, replicate, length-drop}
-use lib.Seq.{length-take-le, get_or-take, get_or-drop, ext_get_or}
+use lib.ListN.{length, get_or, set, take, replicate}
 use borrow.Author.Tests.{eq-eqb}
 use Rattle.rules.specs.declared.records.Alternative.{Alternative}
 use Rattle.rules.specs.declared.records.Instruction.{Instruction}
@@ -16,58 +15,35 @@ use Rattle.rules.specs.declared.records.Instruction.TheVariants.{Load, Build, Ca
 use Rattle.rules.specs.Base.{refusal, found, refused, numbered}
 use Rattle.rules.specs.Container.{payload}
 use Rattle.rules.specs.Program.{Function, arity}
-use Rattle.rules.specs.Records.{alternative_of, program_in, function_in}
+use Rattle.rules.specs.Records.{alternative_of, head_offset, program_in, function_in}
 use Rattle.rules.specs.Stacks.{slot, push}
 use Rattle.rules.specs.Walk.{Arrow, arriving, first}
 use Rattle.rules.specs.Expressions.{Symbol, built, called}
 use Rattle.rules.specs.Forms as forms
 use Rattle.rules.specs.Forms.{form_of, flat_map, substituted, into_bound, covers}
 use Rattle.rules.specs.Shapes.{Shape, with_stack, enter, shape_from, shape_rule}
-use Rattle.rules.proofs.ListLaws.{false_true}
+use Rattle.rules.proofs.ListLaws.{false_true, none_some, some_inj}
 use Rattle.sizing.specs.declared.forms.Form.{Form}
-use Rattle.sizing.specs.declared.bounds.Bound.{Bound}
+use Rattle.sizing.specs.declared.bounds.Bound.TheVariants.{Built}
 use Rattle.sizing.specs.declared.paths.Saved.{Saved}
 use Rattle.sizing.specs.declared.routines.Routine.{Routine}
 use Rattle.sizing.specs.declared.routines.Maker.{Maker}
 use Rattle.sizing.specs.Splits.{variable_e}
-use Rattle.sizing.specs.Forms.{form_in, FormMade, no_form, arguments_in, ArgumentForms}
+use Rattle.sizing.specs.Forms.{form_in, forms_in, Formed, no_form, ArgumentForms}
 use Rattle.sizing.specs.Bounds.{row_in, bound_in, BoundRight}
 use Rattle.sizing.specs.Right.{shape_in, LineRight}
 use Rattle.sizing.specs.Steps.{EntryAsks, FormsAre, OwnAsks, OwnIs}
 use Rattle.sizing.specs.Chart.{ReachedAt}
 use Rattle.sizing.specs.Left.{left_from}
-use Rattle.sizing.specs.Routines.{MakerIs}
+use Rattle.sizing.specs.Routines.{declared_bound, maker_in}
 use Rattle.sizing.specs.Walking.{Makes, LineAsks}
 use Rattle.sizing.proofs.WalkLaws.{alike_past, alike_here, alike_put, outcome_alike, outcome_refused, outcome_goes, first_put}
 use Rattle.sizing.proofs.ReachLaws.{at_low, at_load, at_build, at_call, at_branch, at_some}
 use Rattle.sizing.proofs.FileLaws.{constructor_read, light, weights, function_named, arity_is, few_parameters, bound_right, bound_is}
 use Rattle.sizing.proofs.FileLaws.{own_bound}
 use Rattle.sizing.proofs.ConvertLaws.{entry_asks, own_asks, converted}
-use Rattle.sizing.proofs.LineLaws.{line_rule, line_entry, load_line, entered, entered_shape, enter_large, enter_goes, enter_line}
+use Rattle.sizing.proofs.LineLaws.{line_rule, line_entry, top, top_length, top_at, load_line, entered, entered_shape, enter_large, enter_goes, enter_line}
 use Rattle.sizing.proofs.LineLaws.{enter_refused, build_form, call_form}
-
----- The top four
-
--- as the code has them
-abbrev top_four : List Form → ℕ → List Form
-top_four stack from =
-    get_or stack from no_form ∷ get_or stack (from + 1) no_form ∷ get_or stack (from + 2) no_form ∷ get_or stack (from + 3) no_form ∷ []
-
-top_at : (stack : List Form) (from i : ℕ) → i < 4 → get_or (top_four stack from) i no_form ≡ get_or stack (from + i) no_form
-top_at stack from zero h = ap (λ (k : ℕ). get_or stack k no_form) (omega arith)
-top_at stack from (suc zero) h = ap (λ (k : ℕ). get_or stack k no_form) (omega arith)
-top_at stack from (suc (suc zero)) h = ap (λ (k : ℕ). get_or stack k no_form) (omega arith)
-top_at stack from (suc (suc (suc zero))) h = ap (λ (k : ℕ). get_or stack k no_form) (omega arith)
-top_at stack from (suc (suc (suc (suc i)))) h = absurd (omega arith)
-
-top_taken : (stack : List Form) (from n : ℕ) → n ≤ 4 → from + n ≤ length stack → take n (top_four stack from) ≡ take n (drop from stack)
-top_taken stack from n h l =
-    let a = length-take-le n (top_four stack from) h in
-    let b = length-take-le n (drop from stack) (rw (length-drop from stack) (omega arith)) in
-    ext_get_or no_form (take n (top_four stack from)) (take n (drop from stack)) (a ∙ sym b)
-    (λ i m. let k : i < n = rw a at m in
-    get_or-take n (top_four stack from) i no_form k ∙ top_at stack from i (omega arith)
-    ∙ sym (get_or-take n (drop from stack) i no_form k ∙ get_or-drop from stack i no_form))
 
 ---- A build as a bound of one row
 
@@ -79,20 +55,19 @@ ones (suc (suc (suc zero))) h = refl
 ones (suc (suc (suc (suc zero)))) h = refl
 ones (suc (suc (suc (suc (suc n))))) h = absurd (omega arith)
 
-one_row : (bytes : List ℕ) (n w : ℕ) (b : Bound) (fs : List forms.Form) → n ≤ 4 → b.built ≡ true → b.count ≡ 1 → b.weight ≡ w
-    → into_bound (bound_in bytes n b) fs ≡ substituted (replicate n 1) w fs
+one_row : (bytes : List ℕ) (n w : ℕ) (fs : List forms.Form) → n ≤ 4
+    → into_bound (bound_in bytes n (Built w)) fs ≡ substituted (replicate n 1) w fs
 unfolding into_bound flat_map alternative_of numbered row_in
-one_row bytes n w b fs h t c e =
-    rw (t, c, e)
-    (append-nil (substituted (take n (1 ∷ 1 ∷ 1 ∷ 1 ∷ [])) w fs) ∙ ap (λ (ms : List ℕ). substituted ms w fs) (ones n h))
+one_row bytes n w fs h =
+    append-nil (substituted (take n (1 ∷ 1 ∷ 1 ∷ 1 ∷ [])) w fs) ∙ ap (λ (ms : List ℕ). substituted ms w fs) (ones n h)
 
-one_right : (bytes : List ℕ) (b : Bound) (w : ℕ) → w ≤ 255 → b.built ≡ true → b.count ≡ 1 → b.weight ≡ w → BoundRight bytes b
+one_right : (bytes : List ℕ) (w : ℕ) → w ≤ 255 → BoundRight bytes (Built w)
 unfolding row_in
-one_right bytes b w h t c e = record {
+one_right bytes w h = record {
   some = omega arith;
   few = omega arith;
-  there = λ k l z. absurd (false_true (sym z ∙ t));
-  each = λ k l. rw (t, e) (record { four = refl; small = small; constant = le_trans h (omega arith) });
+  there = λ k l. tt;
+  each = λ k l. record { four = refl; small = small; constant = le_trans h (omega arith) };
 }
   where
     small : (i : ℕ) → get_or {A = ℕ} (1 ∷ 1 ∷ 1 ∷ 1 ∷ []) i 0 ≤ 15
@@ -225,14 +200,14 @@ module _ {file heads : List ℕ} {g : ℕ} {r : Routine} {start : ℕ} {st : Sav
 
     ---- The end
 
-    pub line_end : (ins : Instruction) → slot j (function_in file g).code ≡ Some ins → (m : Maker) → MakerIs (payload file) ins m
-        → m.makes ≡ false → ((x : ℕ) → ins ≡ Load x → ⊥)
+    pub line_end : (ins : Instruction) → slot j (function_in file g).code ≡ Some ins → maker_in (payload file) ins ≡ None
+        → ((x : ℕ) → ins ≡ Load x → ⊥)
         → ((arrows : List (Arrow Shape)) → first (arriving start arrows) ≡ Some from
         → left_from (program_in file) g (function_in file g) start arrows ≡ left_from (program_in file) g (function_in file g) (j + 1)
         arrows)
         × (start < j + 1)
     unfolding shape_from
-    line_end ins e m k z other = ((λ arrows h. l.left arrows h ∙ ends ins e m k z other arrows), (let b = l.behind in omega arith))
+    line_end ins e k other = ((λ arrows h. l.left arrows h ∙ ends ins e k other arrows), (let b = l.behind in omega arith))
       where
         stops : (ins : Instruction) → slot j (function_in file g).code ≡ Some ins
             → shape_from (program_in file) g (function_in file g) j ins l.shape ≡ found [] → (arrows : List (Arrow Shape))
@@ -246,16 +221,16 @@ module _ {file heads : List ℕ} {g : ℕ} {r : Routine} {start : ℕ} {st : Sav
             ∙ outcome_alike (shape_rule (program_in file) g (function_in file g)) (function_in file g).code (suc j) ((j, l.shape) ∷ arrows)
             arrows (alike_past (suc j) j l.shape arrows (omega arith)))
 
-        ends : (ins : Instruction) → slot j (function_in file g).code ≡ Some ins → (m : Maker) → MakerIs (payload file) ins m
-            → m.makes ≡ false → ((x : ℕ) → ins ≡ Load x → ⊥) → (arrows : List (Arrow Shape))
+        ends : (ins : Instruction) → slot j (function_in file g).code ≡ Some ins → maker_in (payload file) ins ≡ None
+            → ((x : ℕ) → ins ≡ Load x → ⊥) → (arrows : List (Arrow Shape))
             → left_from (program_in file) g (function_in file g) j ((j, l.shape) ∷ arrows)
             ≡ left_from (program_in file) g (function_in file g) (j + 1) arrows
-        ends (Load x) e m k z other arrows = absurd (other x refl)
-        ends (Build c) e m k z other arrows = absurd (false_true (sym z ∙ k.makes))
-        ends (Call c) e m k z other arrows = absurd (false_true (sym z ∙ k.makes))
-        ends (Branch c b) e m k z other arrows = absurd (l.makes (at_branch a.walking a.there l.at c b e).0 (Branch c b) e)
-        ends Return e m k z other arrows = stops Return e refl arrows
-        ends Stop e m k z other arrows = stops Stop e refl arrows
+        ends (Load x) e k other arrows = absurd (other x refl)
+        ends (Build c) e k other arrows = none_some (sym k)
+        ends (Call c) e k other arrows = none_some (sym k)
+        ends (Branch c b) e k other arrows = absurd (l.makes (at_branch a.walking a.there l.at c b e).0 (Branch c b) e)
+        ends Return e k other arrows = stops Return e refl arrows
+        ends Stop e k other arrows = stops Stop e refl arrows
 
     ---- A build or a call
 
@@ -267,104 +242,104 @@ module _ {file heads : List ℕ} {g : ℕ} {r : Routine} {start : ℕ} {st : Sav
       pub rule : shape_from (program_in file) g (function_in file g) j ins l.shape
           ≡ enter (program_in file) g (function_in file g) j l.shape m.arity symbol
       pub form : form_of (program_in file) (entered g l.line m.arity symbol)
-          ≡ into_bound (bound_in (payload file) m.arity m.bound) (map form_in (take m.arity (drop (height - m.arity) stack)))
+          ≡ into_bound (bound_in (payload file) m.arity m.bound) (forms_in (top g l.line m.arity))
       pub next : ReachedAt (program_in file) g (function_in file g) (suc j) (height - m.arity + 1) true
 
-    pub line_making : (ins : Instruction) → slot j (function_in file g).code ≡ Some ins → (m : Maker) → MakerIs (payload file) ins m
-        → m.makes ≡ true → Making ins m
+    pub line_making : (ins : Instruction) → slot j (function_in file g).code ≡ Some ins → (m : Maker) → maker_in (payload file) ins ≡ Some m
+        → Making ins m
     unfolding shape_from
-    line_making (Load x) e m k z = absurd (false_true (sym k ∙ z))
-    line_making (Build c) e m k z =
+    line_making (Load x) e m k = none_some k
+    line_making (Build c) e m k =
         let y = at_build a.walking a.there l.at c e in
         let q = constructor_read a.walking c y.0 y.1 in
-        let n_is : m.arity ≡ length y.0.arguments = k.arity ∙ sym q.0 in
-        let weight = k.weight ∙ sym q.2 in
-        rw n_is (record {
+        let n_is : m.arity ≡ length y.0.arguments = ap (λ (x : Maker). x.arity) (sym (some_inj k)) ∙ sym q.0 in
+        let b_is : m.bound ≡ Built y.0.weight = ap (λ (x : Maker). x.bound) (sym (some_inj k)) ∙ ap Built (sym q.2) in
+        rw (n_is, b_is) (record {
           few = q.1;
           high = y.2;
-          bound = one_right (payload file) m.bound y.0.weight (light a.walking c y.0 y.1) k.built k.one weight;
+          bound = one_right (payload file) y.0.weight (light a.walking c y.0 y.1);
           symbol = built c;
           rule = rw y.1;
           form =
               build_form g l.line c y.0 y.1 y.2
-              ∙ sym (one_row (payload file) (length y.0.arguments) y.0.weight m.bound _ q.1 k.built k.one weight);
+              ∙ sym (one_row (payload file) (length y.0.arguments) y.0.weight _ q.1);
           next = y.3;
         })
-    line_making (Call c) e m k z =
+    line_making (Call c) e m k =
         let y = at_call a.walking a.there l.at c e in
         let q = function_named a.walking c y.0 y.1 in
-        let n_is : m.arity ≡ arity y.0 = k.arity ∙ sym (ap (λ (h : Function). arity h) q.1 ∙ arity_is a.walking c q.0) in
+        let n_is : m.arity ≡ arity y.0 = ap (λ (x : Maker). x.arity) (sym (some_inj k))
+        ∙ sym (ap (λ (h : Function). arity h) q.1 ∙ arity_is a.walking c q.0) in
+        let d_is : m.bound ≡ declared_bound (payload file) (head_offset (payload file) c) = ap (λ (x : Maker). x.bound) (sym (some_inj k)) in
         let b_is : y.0.bound ≡ bound_in (payload file) (arity y.0) m.bound =
-        ap (λ (h : Function). h.bound) q.1 ∙ sym (bound_is a.walking c q.0 m.bound k.bound)
+        ap (λ (h : Function). h.bound) q.1 ∙ sym (bound_is a.walking c q.0 m.bound d_is)
         ∙ ap (λ (h : Function). bound_in (payload file) (arity h) m.bound) (sym q.1) in
         rw n_is (record {
           few = rw q.1 (few_parameters a.walking c q.0);
           high = y.2;
-          bound = bound_right a.walking c q.0 m.bound k.bound;
+          bound = bound_right a.walking c q.0 m.bound d_is;
           symbol = called c;
           rule = rw y.1;
           form = call_form g l.line c y.0 y.1 y.2
-              ∙ ap (λ (b : List Alternative). into_bound b (map form_in (take (arity y.0) (drop (height - arity y.0) stack)))) b_is;
+              ∙ ap (λ (b : List Alternative). into_bound b (forms_in (top g l.line (arity y.0)))) b_is;
           next = y.3;
         })
-    line_making (Branch c b) e m k z = absurd (false_true (sym k ∙ z))
-    line_making Return e m k z = absurd (false_true (sym k ∙ z))
-    line_making Stop e m k z = absurd (false_true (sym k ∙ z))
+    line_making (Branch c b) e m k = none_some k
+    line_making Return e m k = none_some k
+    line_making Stop e m k = none_some k
 
     module _ (ins : Instruction) (is : slot j (function_in file g).code ≡ Some ins) (m : Maker) (k : Making ins m) where
       -- the arguments
       pub line_from : (height - m.arity < 16) × (height - m.arity ≤ height)
       line_from = let z = at_low a.walking a.there k.next in (omega arith, omega arith)
 
-      pub line_arguments : ArgumentForms (top_four stack (height - m.arity)) m.arity
+      pub line_arguments : ArgumentForms (top g l.line m.arity)
       line_arguments = record {
-        few = k.few;
-        long = refl;
-        entries = λ i h. let u = k.few in let v = k.high in
-            rw (top_at stack (height - m.arity) i (omega arith)) (line_entry g l.line (height - m.arity + i) (omega arith));
+        few = rw (top_length g l.line m.arity k.high) k.few;
+        entries = λ i h.
+            let b : i < m.arity = rw (top_length g l.line m.arity k.high) at h in
+            let v = k.high in
+            rw (top_at g l.line m.arity i b v) (line_entry g l.line (height - m.arity + i) (omega arith));
       }
 
-      -- x: what the code makes of them
-      module _ (x : Form)
-          (mk : FormMade x (into_bound (bound_in (payload file) m.arity m.bound)
-          (arguments_in (top_four stack (height - m.arity)) m.arity))) where
-        made : FormMade x (into_bound (bound_in (payload file) m.arity m.bound)
-            (map form_in (take m.arity (drop (height - m.arity) stack))))
-        made =
-            let z = l.line.long in let y = l.line.high in let u = k.high in
-            rw (← top_taken stack (height - m.arity) m.arity k.few (omega arith)) mk
+      -- what the code makes of them
+      abbrev form_here : forms.Form
+      form_here = into_bound (bound_in (payload file) (length (top g l.line m.arity)) m.bound) (forms_in (top g l.line m.arity))
 
-        pub line_large : x.count ≡ 0 → (arrows : List (Arrow Shape)) → first (arriving start arrows) ≡ Some from
-            → left_from (program_in file) g (function_in file g) start arrows ≡ refused (refusal 9 g j)
-        line_large z arrows e =
-            l.left arrows e
-            ∙ outcome_refused (shape_rule (program_in file) g (function_in file g)) (function_in file g).code j ((j, l.shape) ∷ arrows) is
-            l.shape (refusal 9 g j) (first_put j j l.shape arrows ∙ rw (eq-eqb j j refl))
-            (line_rule g l.line j ins ∙ k.rule
-            ∙ enter_large g l.line j m.arity k.symbol k.high _ k.form x made z)
+      form_is : form_of (program_in file) (entered g l.line m.arity k.symbol) ≡ form_here
+      form_is = rw (top_length g l.line m.arity k.high) k.form
 
-        module _ (some_made : x.count ≡ 0 → ⊥) where
-          goes : (arrows : List (Arrow Shape)) → left_from (program_in file) g (function_in file g) j ((j, l.shape) ∷ arrows)
-              ≡ left_from (program_in file) g (function_in file g) (suc j) ((suc j, entered_shape g l.line m.arity k.symbol) ∷ arrows)
-          goes arrows =
-              on ins (entered_shape g l.line m.arity k.symbol) arrows is
-              (k.rule ∙ enter_goes g l.line j m.arity k.symbol k.high _ k.form x made some_made)
+      pub line_large : 16 < length form_here → (arrows : List (Arrow Shape)) → first (arriving start arrows) ≡ Some from
+          → left_from (program_in file) g (function_in file g) start arrows ≡ refused (refusal 9 g j)
+      line_large z arrows e =
+          l.left arrows e
+          ∙ outcome_refused (shape_rule (program_in file) g (function_in file g)) (function_in file g).code j ((j, l.shape) ∷ arrows) is
+          l.shape (refusal 9 g j) (first_put j j l.shape arrows ∙ rw (eq-eqb j j refl))
+          (line_rule g l.line j ins ∙ k.rule
+          ∙ enter_large g l.line j m.arity k.symbol k.high _ form_is z)
 
-          pub line_uncovered : covers (form_in own) (form_in x) ≡ false → (arrows : List (Arrow Shape))
-              → first (arriving start arrows) ≡ Some from
-              → left_from (program_in file) g (function_in file g) start arrows ≡ refused (refusal 10 g (j + 1))
-          line_uncovered z arrows e =
-              let there = at_some a.walking a.there k.next in
-              rw (add-one j)
-              (l.left arrows e ∙ goes arrows
-              ∙ outcome_refused (shape_rule (program_in file) g (function_in file g)) (function_in file g).code (suc j)
-              ((suc j, entered_shape g l.line m.arity k.symbol) ∷ arrows) there.1
-              (entered_shape g l.line m.arity k.symbol) (refusal 10 g (suc j))
-              (first_put (suc j) (suc j) (entered_shape g l.line m.arity k.symbol) arrows ∙ rw (eq-eqb (suc j) (suc j) refl))
-              (enter_refused g l.line j m.arity k.symbol k.high _ k.form x made some_made z (suc j) there.0))
+      module _ (x : Form) (made : Formed x form_here) where
+        goes : (arrows : List (Arrow Shape)) → left_from (program_in file) g (function_in file g) j ((j, l.shape) ∷ arrows)
+            ≡ left_from (program_in file) g (function_in file g) (suc j) ((suc j, entered_shape g l.line m.arity k.symbol) ∷ arrows)
+        goes arrows =
+            on ins (entered_shape g l.line m.arity k.symbol) arrows is
+            (k.rule ∙ enter_goes g l.line j m.arity k.symbol k.high _ form_is x made)
 
-          pub line_made : covers (form_in own) (form_in x) ≡ true
-              → LineGoes file g start from own (set stack (height - m.arity) x) (height - m.arity + 1) (j + 1)
-          line_made z =
-              next_goes (entered_shape g l.line m.arity k.symbol) (set stack (height - m.arity) x) (height - m.arity + 1) true
-              (enter_line g l.line j m.arity k.symbol k.high _ k.form x made some_made line_from.0 z) k.next refl goes
+        pub line_uncovered : covers (form_in own) (form_in x) ≡ false → (arrows : List (Arrow Shape))
+            → first (arriving start arrows) ≡ Some from
+            → left_from (program_in file) g (function_in file g) start arrows ≡ refused (refusal 10 g (j + 1))
+        line_uncovered z arrows e =
+            let there = at_some a.walking a.there k.next in
+            rw (add-one j)
+            (l.left arrows e ∙ goes arrows
+            ∙ outcome_refused (shape_rule (program_in file) g (function_in file g)) (function_in file g).code (suc j)
+            ((suc j, entered_shape g l.line m.arity k.symbol) ∷ arrows) there.1
+            (entered_shape g l.line m.arity k.symbol) (refusal 10 g (suc j))
+            (first_put (suc j) (suc j) (entered_shape g l.line m.arity k.symbol) arrows ∙ rw (eq-eqb (suc j) (suc j) refl))
+            (enter_refused g l.line j m.arity k.symbol k.high _ form_is x made z (suc j) there.0))
+
+        pub line_made : covers (form_in own) (form_in x) ≡ true
+            → LineGoes file g start from own (set stack (height - m.arity) x) (height - m.arity + 1) (j + 1)
+        line_made z =
+            next_goes (entered_shape g l.line m.arity k.symbol) (set stack (height - m.arity) x) (height - m.arity + 1) true
+            (enter_line g l.line j m.arity k.symbol k.high _ form_is x made line_from.0 z) k.next refl goes

@@ -13,7 +13,7 @@ use Rattle.rules.specs.Lists.{l[], ◌l∷◌}
 use Rattle.rules.specs.Forms.{Form, added, flat_map, constant_only, substituted}
 use Rattle.sizing.specs.declared.forms.Form as code
 use Rattle.sizing.specs.Put.{Bounded, AllBounded, no_alternative}
-use Rattle.sizing.specs.Forms.{form_in, FormRight, Entry, FormMade, choices, no_form, arguments_in, RowRight, ArgumentForms}
+use Rattle.sizing.specs.Forms.{form_in, FormRight, Entry, Formed, choices, no_form, forms_in, RowRight, ArgumentForms}
 use Rattle.sizing.proofs.PutLaws.{constant_wide, constant_at}
 use Rattle.sizing.proofs.RightLaws.{form_length}
 use Rattle.sizing.proofs.OneLaws.{first_below, one_made}
@@ -81,33 +81,33 @@ choices_below (suc c) m₂ k₂ form rest h p q =
 
 ---- What the code's loop has: the arguments from t on are done
 
-pub record Substituting (row : AlternativeRecord) (n : ℕ) (arguments : List code.Form) (t : ℕ) (rest : code.Form) : Type 0 where
+pub record Substituting (row : AlternativeRecord) (arguments : List code.Form) (t : ℕ) (rest : code.Form) : Type 0 where
   pub right : FormRight rest
   pub some : 0 < rest.count
-  pub below : AllBounded (225 * (n - t)) (65535 + 1966080 * (n - t)) (form_in rest)
-  pub same : form_in rest ≡ substituted (drop t (take n row.coefficients)) row.constant (drop t (arguments_in arguments n))
+  pub below : AllBounded (225 * (length arguments - t)) (65535 + 1966080 * (length arguments - t)) (form_in rest)
+  pub same : form_in rest ≡ substituted (drop t (take (length arguments) row.coefficients)) row.constant (drop t (forms_in arguments))
 
-module _ (row : AlternativeRecord) (n : ℕ) (arguments : List code.Form) (r : RowRight row) (a : ArgumentForms arguments n) where
+module _ (row : AlternativeRecord) (arguments : List code.Form) (r : RowRight row) (a : ArgumentForms arguments) where
+  abbrev n : ℕ
+  n = length arguments
+
   cs_length : length (take n row.coefficients) ≡ n
   cs_length = let l = r.four in let f = a.few in length-take-le n row.coefficients (omega arith)
 
-  taken_length : length (take n arguments) ≡ n
-  taken_length = let l = a.long in let f = a.few in length-take-le n arguments (omega arith)
+  arguments_length : length (forms_in arguments) ≡ n
+  arguments_length = length-map arguments form_in
 
-  arguments_length : length (arguments_in arguments n) ≡ n
-  arguments_length = length-map (take n arguments) form_in ∙ taken_length
+  argument_at : (i : ℕ) → i < n → get_or (forms_in arguments) i [] ≡ form_in (get_or arguments i no_form)
+  argument_at i h = get_or-map form_in arguments i no_form
 
-  argument_at : (i : ℕ) → i < n → get_or (arguments_in arguments n) i [] ≡ form_in (get_or arguments i no_form)
-  argument_at i h = get_or-map form_in (take n arguments) i no_form ∙ ap form_in (get_or-take n arguments i no_form h)
-
-  arguments_some : EachSome (arguments_in arguments n)
+  arguments_some : EachSome (forms_in arguments)
   arguments_some =
-      each_some (arguments_in arguments n)
+      each_some (forms_in arguments)
       (λ i h. let l : i < n = rw arguments_length at h in let e = a.entries i l in let z =
       form_length (get_or arguments i no_form) e.right in let y = e.some in rw (argument_at i l) (omega arith))
 
   pub substituting_start : (x : code.Form) → FormRight x → x.count ≡ 1 → form_in x ≡ constant_only row.constant ∷ []
-      → Substituting row n arguments n x
+      → Substituting row arguments n x
   substituting_start x p c e =
       let z = r.constant in
       record {
@@ -117,52 +117,50 @@ module _ (row : AlternativeRecord) (n : ℕ) (arguments : List code.Form) (r : R
             rw e (◌l∷◌ {x = constant_only row.constant}
             (constant_wide row.constant, λ i. rw (constant_at row.constant i) zero-le, rw (only row.constant) (omega arith)) l[]);
         same =
-            e ∙ sym (subst_last (drop n (take n row.coefficients)) (drop n (arguments_in arguments n)) row.constant
+            e ∙ sym (subst_last (drop n (take n row.coefficients)) (drop n (forms_in arguments)) row.constant
             (drop_of_length-le (take n row.coefficients) {i = n} (let z = cs_length in omega arith)));
       }
 
-  pub substituting_next : (k : ℕ) (rest x : code.Form) → k < n → Substituting row n arguments (k + 1) rest
-      → FormMade x (choices (get_or row.coefficients k 0) (form_in (get_or arguments k no_form)) (form_in rest))
-      → ((x.count ≡ 0 → ⊥) → Substituting row n arguments k x)
-      × (x.count ≡ 0 → 16 < length (substituted (take n row.coefficients) row.constant (arguments_in arguments n)))
-  substituting_next k rest x h p m = (
-    (λ z.
-        let s : 0 < x.count = omega (arith, z) in
-        let q = m.right s in
-        record {
-          right = q.0;
-          some = s;
-          below =
-              rw q.1 (below_more (225 * (n - (k + 1)) + 225) (65535 + 1966080 * (n - (k + 1)) + 1966080) (225 * (n - k))
-              (65535 + 1966080 * (n - k)) (choices (get_or row.coefficients k 0) (form_in (get_or arguments k no_form)) (form_in rest))
-              (omega arith) (omega arith)
-              (choices_below (get_or row.coefficients k 0) (225 * (n - (k + 1))) (65535 + 1966080 * (n - (k + 1)))
-              (form_in (get_or arguments k no_form)) (form_in rest) (r.small k) (a.entries k h).below p.below));
-          same = q.1 ∙ sym step;
-        }),
-    (λ z. let g = m.many z in let l = subst_grows (take n row.coefficients) (arguments_in arguments n) row.constant k
-        arguments_some in let e = ap length step in omega arith),
-  )
-    where
-      step : substituted (drop k (take n row.coefficients)) row.constant (drop k (arguments_in arguments n))
-          ≡ choices (get_or row.coefficients k 0) (form_in (get_or arguments k no_form)) (form_in rest)
-      step =
-          let c = cs_length in let l = arguments_length in
-          subst_step (take n row.coefficients) (arguments_in arguments n) row.constant k (omega arith) (omega arith)
-          ∙ rw (get_or-take n row.coefficients k 0 h, argument_at k h, ← add-one k)
-          (ap (choices (get_or row.coefficients k 0) (form_in (get_or arguments k no_form))) (sym p.same))
+  module _ (k : ℕ) (rest : code.Form) (h : k < n) (p : Substituting row arguments (k + 1) rest) where
+    step : substituted (drop k (take n row.coefficients)) row.constant (drop k (forms_in arguments))
+        ≡ choices (get_or row.coefficients k 0) (form_in (get_or arguments k no_form)) (form_in rest)
+    step =
+        let c = cs_length in let l = arguments_length in
+        subst_step (take n row.coefficients) (forms_in arguments) row.constant k (omega arith) (omega arith)
+        ∙ rw (get_or-take n row.coefficients k 0 h, argument_at k h, ← add-one k)
+        (ap (choices (get_or row.coefficients k 0) (form_in (get_or arguments k no_form))) (sym p.same))
 
-  -- an argument with coefficient 0 has no part
-  pub substituting_skip : (k : ℕ) (rest : code.Form) → k < n → Substituting row n arguments (k + 1) rest → get_or row.coefficients k 0 ≡ 0
-      → Substituting row n arguments k rest
-  substituting_skip k rest h p e =
-      let s = p.some in
-      (substituting_next k rest rest h p (record {
-        many = λ z. absurd (omega arith);
-        right = λ g. (p.right, sym (choices_none (get_or row.coefficients k 0) (form_in (get_or arguments k no_form)) (form_in rest) e));
-      })).0 (λ z. omega arith)
+    pub substituting_next : (x : code.Form)
+        → Formed x (choices (get_or row.coefficients k 0) (form_in (get_or arguments k no_form)) (form_in rest))
+        → Substituting row arguments k x
+    substituting_next x q = record {
+      right = q.right;
+      some = q.some;
+      below =
+          rw q.same (below_more (225 * (n - (k + 1)) + 225) (65535 + 1966080 * (n - (k + 1)) + 1966080) (225 * (n - k))
+          (65535 + 1966080 * (n - k)) (choices (get_or row.coefficients k 0) (form_in (get_or arguments k no_form)) (form_in rest))
+          (omega arith) (omega arith)
+          (choices_below (get_or row.coefficients k 0) (225 * (n - (k + 1))) (65535 + 1966080 * (n - (k + 1)))
+          (form_in (get_or arguments k no_form)) (form_in rest) (r.small k) (a.entries k h).below p.below));
+      same = q.same ∙ sym step;
+    }
 
-  pub substituting_asks : (k : ℕ) (rest : code.Form) → k < n → Substituting row n arguments (k + 1) rest
+    pub substituting_many : 16 < length (choices (get_or row.coefficients k 0) (form_in (get_or arguments k no_form)) (form_in rest))
+        → 16 < length (substituted (take n row.coefficients) row.constant (forms_in arguments))
+    substituting_many g =
+        let l = subst_grows (take n row.coefficients) (forms_in arguments) row.constant k arguments_some in
+        let e = ap length step in omega arith
+
+    -- an argument with coefficient 0 has no part
+    pub substituting_skip : get_or row.coefficients k 0 ≡ 0 → Substituting row arguments k rest
+    substituting_skip e =
+        substituting_next rest (record {
+          right = p.right;
+          some = p.some;
+          same = sym (choices_none (get_or row.coefficients k 0) (form_in (get_or arguments k no_form)) (form_in rest) e);
+        })
+
+  pub substituting_asks : (k : ℕ) (rest : code.Form) → k < n → Substituting row arguments (k + 1) rest
       → (get_or row.coefficients k 0 ≡ 0 → ⊥)
       → (get_or row.coefficients k 0 ≤ 15) × Entry (get_or arguments k no_form) × FormRight rest × (0 < rest.count)
       × AllBounded 32768 16777216 (form_in rest) × (0 < get_or row.coefficients k 0)
@@ -178,7 +176,7 @@ module _ (row : AlternativeRecord) (n : ℕ) (arguments : List code.Form) (r : R
       )
 
   -- one alternative into one
-  module _ (k : ℕ) (rest : code.Form) (h : k < n) (p : Substituting row n arguments (k + 1) rest) (m : get_or row.coefficients k 0 ≡ 0 → ⊥)
+  module _ (k : ℕ) (rest : code.Form) (h : k < n) (p : Substituting row arguments (k + 1) rest) (m : get_or row.coefficients k 0 ≡ 0 → ⊥)
       (two : (get_or arguments k no_form).count + rest.count ≡ 2) where
     one : (get_or arguments k no_form).count ≡ 1
     one = omega (arith, (a.entries k h).some, p.some)
@@ -196,9 +194,9 @@ module _ (row : AlternativeRecord) (n : ℕ) (arguments : List code.Form) (r : R
     pub substituting_one : {x : Alternative}
         → x ≡ added (get_or row.coefficients k 0) (get_or (get_or arguments k no_form).alternatives 0 no_alternative)
         (get_or rest.alternatives 0 no_alternative)
-        → Substituting row n arguments k (record { alternatives = set rest.alternatives 0 x; count = rest.count })
+        → Substituting row arguments k (record { alternatives = set rest.alternatives 0 x; count = rest.count })
     substituting_one e =
         let q = substituting_asks k rest h p m in let b = substituting_one_asks in
-        (substituting_next k rest (record { alternatives = set rest.alternatives 0 _; count = rest.count }) h p
+        substituting_next k rest h p (record { alternatives = set rest.alternatives 0 _; count = rest.count })
         (one_made (get_or row.coefficients k 0) (get_or arguments k no_form) rest q.5 q.1 q.2 one single b.1.0 b.2.0
-        e)).0 (λ z. omega (arith, p.some))
+        e)

@@ -1,5 +1,5 @@
 -- The code's size forms as lists of alternatives.
-use Rattle.std.specs.Prelude.{◌≡◌, List, [], ◌∷◌, map, ℕ, zero, suc, ◌≤◌, ◌<◌, take, length, get_or}
+use Rattle.std.specs.Prelude.{◌≡◌, Option, Some, None, List, [], ◌∷◌, map, ℕ, zero, suc, ◌≤◌, ◌<◌, take, length, get_or}
 use Rattle.rules.specs.declared.records.Alternative.{Alternative}
 use Rattle.rules.specs.declared.records.AlternativeRecord.{AlternativeRecord}
 use Rattle.rules.specs.Forms as forms
@@ -21,10 +21,16 @@ pub record Entry (f : Form) : Type 0 where
   pub some : 0 < f.count
   pub below : AllBounded 15 131072 (form_in f)
 
--- x is the form, where that has at most 16 alternatives; else x has none
-pub record FormMade (x : Form) (form : forms.Form) : Type 0 where
-  pub many : x.count ≡ 0 → 16 < length form
-  pub right : 0 < x.count → FormRight x × (form_in x ≡ form)
+-- x has some alternatives, and is the form
+pub record Formed (x : Form) (form : forms.Form) : Type 0 where
+  pub right : FormRight x
+  pub some : 0 < x.count
+  pub same : form_in x ≡ form
+
+-- the form, where that has at most 16 alternatives
+abbrev pub FormMade : Option Form → forms.Form → Type 0
+FormMade None form = 16 < length form
+FormMade (Some x) form = Formed x form
 
 -- every choice of an alternative of form, m times, with one of rest
 unfoldable pub choices : ℕ → forms.Form → forms.Form → forms.Form
@@ -34,19 +40,18 @@ choices (suc m) form rest = flat_map (λ choice. map (added (suc m) choice) rest
 abbrev pub no_form : Form
 no_form = record { alternatives = []; count = 0 }
 
--- the forms of the first n arguments
-abbrev pub arguments_in : List Form → ℕ → List forms.Form
-arguments_in arguments n = map form_in (take n arguments)
+-- the forms of arguments
+abbrev pub forms_in : List Form → List forms.Form
+forms_in arguments = map form_in arguments
 
 pub record RowRight (row : AlternativeRecord) : Type 0 where
   pub four : length row.coefficients ≡ 4
   pub small : (i : ℕ) → get_or row.coefficients i 0 ≤ 15
   pub constant : row.constant ≤ 65535
 
-pub record ArgumentForms (arguments : List Form) (n : ℕ) : Type 0 where
-  pub few : n ≤ 4
-  pub long : length arguments ≡ 4
-  pub entries : (i : ℕ) → i < n → Entry (get_or arguments i no_form)
+pub record ArgumentForms (arguments : List Form) : Type 0 where
+  pub few : length arguments ≤ 4
+  pub entries : (i : ℕ) → i < length arguments → Entry (get_or arguments i no_form)
 
 -- one alternative
 pub record Single (x : Form) (a : Alternative) : Type 0 where

@@ -52,7 +52,7 @@ pub record LineRight (s : Program) (f : Function) (sh : Shape) (own : Form) (sta
   pub bound : FormRight own
   pub most : AllBounded 15 131072 (form_in own)
   pub shaped : form_in own ≡ into_bound sh.bound (map (form_of s) sh.parameters)
-  pub long : length stack ≡ 20
+  pub long : length stack ≡ 16
   pub high : height ≤ 16
   pub held : (i : ℕ) → i < height → Held own (get_or stack i no_form)
   pub same : map (form_of s) sh.stack ≡ map form_in (take height stack)

@@ -19,7 +19,7 @@ use Rattle.sizing.specs.declared.bounds.Bound.{Bound}
 use Rattle.sizing.specs.declared.splits.Splits.{Splits}
 use Rattle.sizing.specs.Put.{widened}
 use Rattle.sizing.specs.Forms.{form_in, FormRight, Single, no_form}
-use Rattle.sizing.specs.Bounds.{row_in, BoundRight}
+use Rattle.sizing.specs.Bounds.{rows_in, row_in, BoundRight}
 use Rattle.sizing.specs.Splits.{Whole, Carrying, carried}
 use Rattle.sizing.specs.States.{splits_in, split_of}
 use Rattle.sizing.specs.Right.{shape_in, SavedRight}
@@ -73,7 +73,7 @@ EntryIs file st i x = Single x (carried (program_in file) (splits_in st) (variab
 
 -- the forms of the lowest n variables
 pub record FormsAre (file : List ℕ) (st : Saved) (n : ℕ) (r : List Form) : Type 0 where
-  pub long : length r ≡ 20
+  pub long : length r ≡ 16
   pub each : (i : ℕ) → i < n → EntryIs file st i (get_or r i no_form)
 
 -- a row of a bound at the parameters, before the splits
@@ -86,9 +86,9 @@ own_after file b s k = carried (program_in file) (take s.taken s.list) (own_row 
 
 pub record OwnAsks (file : List ℕ) (b : Bound) (s : Splits) : Type 0 where
   pub bound : BoundRight (payload file) b
-  pub carrying : (k : ℕ) → k < b.count → Carrying file (own_row (row_in (payload file) b k)) s.taken s.list
+  pub carrying : (k : ℕ) → k < rows_in b → Carrying file (own_row (row_in (payload file) b k)) s.taken s.list
 
 pub record OwnIs (file : List ℕ) (b : Bound) (s : Splits) (x : Form) : Type 0 where
   pub right : FormRight x
-  pub count : x.count ≡ b.count
-  pub same : form_in x ≡ numbered (own_after file b s) 0 b.count
+  pub count : x.count ≡ rows_in b
+  pub same : form_in x ≡ numbered (own_after file b s) 0 (rows_in b)

@@ -2,7 +2,6 @@
 ghost use Rattle.std.specs.Prelude.{◌≡◌};
 ghost use Rattle.rules.specs.Base.{any};
 ghost use Rattle.rules.specs.Forms.{matches, covers};
-ghost use Rattle.sizing.specs.Put.{Wide};
 ghost use Rattle.sizing.specs.Forms.{form_in, FormRight};
 
 use crate::forms::Form;
@@ -10,52 +9,31 @@ use rules::records::Alternative;
 
 // Whether no coefficient and no constant of a exceeds b's.
 pub fn matched_by(a: Alternative, b: Alternative) -> bool
-    requires { Wide a × Wide b }
     ensures { result ≡ matches a b }
 {
-    if a.constant > b.constant {
-        return false;
-    }
-    let mut i: usize = 0;
-    while i < 16 {
-        if a.coefficients[i] > b.coefficients[i] {
-            return false;
-        }
-        i += 1;
-    }
-    true
+    a.constant <= b.constant
+        && a.coefficients
+            .iter()
+            .zip(b.coefficients.iter())
+            .all(|(x, y)| x <= y)
 }
 
 // Whether some alternative of the bound matches a.
-pub fn some_matches(bound: Form, a: Alternative) -> bool
-    requires { FormRight bound × Wide a }
-    ensures { result ≡ any (matches a) (form_in bound) }
+pub fn some_matches(bound: &Form, a: Alternative) -> bool
+    requires { FormRight bound.now }
+    ensures { result ≡ any (matches a) (form_in bound.now) }
 {
-    let n = bound.count;
-    let mut i: usize = 0;
-    while i < n {
-        let b = bound.alternatives[i];
-        if matched_by(a, b) {
-            return true;
-        }
-        i += 1;
-    }
-    false
+    bound.alternatives[..bound.count]
+        .iter()
+        .any(|b| matched_by(a, *b))
 }
 
 // Whether every alternative of the form is matched in the bound.
-pub fn covered_by(bound: Form, form: Form) -> bool
-    requires { FormRight bound × FormRight form }
-    ensures { result ≡ covers (form_in bound) (form_in form) }
+pub fn covered_by(bound: &Form, form: &Form) -> bool
+    requires { FormRight bound.now × FormRight form.now }
+    ensures { result ≡ covers (form_in bound.now) (form_in form.now) }
 {
-    let n = form.count;
-    let mut i: usize = 0;
-    while i < n {
-        let a = form.alternatives[i];
-        if !some_matches(bound, a) {
-            return false;
-        }
-        i += 1;
-    }
-    true
+    form.alternatives[..form.count]
+        .iter()
+        .all(|a| some_matches(bound, *a))
 }

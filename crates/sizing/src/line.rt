@@ -6,13 +6,13 @@ ghost use Rattle.sizing.specs.Forms.{RowRight};
 ghost use Rattle.sizing.specs.Steps.{EntryAsks, EntryIs, OwnAsks, OwnIs};
 ghost use Rattle.sizing.specs.Walking.{LineAsks, LineSays};
 
-use crate::bounds::{Bound, row_of};
+use crate::bounds::{Bound, row_of, rows};
 use crate::cover::covered_by;
 use crate::forms::{Form, into_bound, no_form, single, unit};
 use crate::paths::Saved;
 use crate::routines::{Routine, maker_of};
 use crate::splits::{Splits, carry};
-use readers::{instruction, instruction_offset, wide};
+use readers::{instruction, instruction_offset};
 use rules::answers::{Place, Reason};
 use rules::records::{Alternative, AlternativeRecord, Instruction};
 
@@ -21,42 +21,38 @@ pub fn widen(row: AlternativeRecord) -> Alternative
     requires { RowRight row }
     ensures { result ≡ widened 0 row.coefficients row.constant }
 {
-    let cs = row.coefficients;
-    let mut c = [0u16; 16];
-    c[0] = cs[0] as u16;
-    c[1] = cs[1] as u16;
-    c[2] = cs[2] as u16;
-    c[3] = cs[3] as u16;
+    let mut coefficients = [0u16; 16];
+    for i in 0..4 {
+        coefficients[i] = u16::from(row.coefficients[i]);
+    }
     Alternative {
-        coefficients: c,
-        constant: row.constant as u32,
+        coefficients,
+        constant: u32::from(row.constant),
     }
 }
 
 // The function's own bound at its parameters' shapes.
-pub fn own_form(file: &[u8], bound: Bound, s: Splits) -> Form
-    requires { Verified file.now × OwnAsks file.now bound s }
-    ensures { OwnIs file.now bound s result }
+pub fn own_form(file: &[u8], bound: Bound, s: &Splits) -> Form
+    requires { Verified file.now × OwnAsks file.now bound s.now }
+    ensures { OwnIs file.now bound s.now result }
 {
-    let n = bound.count;
+    let n = rows(bound);
     let mut x = no_form();
-    let mut i: usize = 0;
-    while i < n {
+    for i in 0..n {
         let row = row_of(file, bound, i);
         x.alternatives[i] = carry(file, widen(row), s);
-        i += 1;
     }
     x.count = n;
     x
 }
 
 // The form of the variable at place i of the stack.
-pub fn entry_form(file: &[u8], st: Saved, i: usize) -> Form
-    requires { Verified file.now × EntryAsks file.now st i }
-    ensures { EntryIs file.now st i result }
+pub fn entry_form(file: &[u8], st: &Saved, i: usize) -> Form
+    requires { Verified file.now × EntryAsks file.now st.now i }
+    ensures { EntryIs file.now st.now i result }
 {
     let v = usize::from(st.stack[i]);
-    single(carry(file, unit(v), st.splits))
+    single(carry(file, unit(v), &st.splits))
 }
 
 // An instruction of a function.
@@ -69,9 +65,9 @@ fn place(function: usize, instruction: usize) -> Place
     }
 }
 
-// The straight line of function g from instruction start on, a build or call. Only what is new on the stack has to be tested,
-// where it arrives: at the next instruction. There are places for four entries more than a stack can have. The stack is filled here and
-// not by a function that returns it, since the compiler would then copy it.
+// The straight line of function g from instruction start on, a build or call: the number of the instruction behind its end. Only what is
+// new on the stack has to be tested, where it arrives: at the next instruction. The stack is filled here and not by a function that
+// returns it, since the compiler would then copy it.
 pub fn straight_line(
     file: &[u8],
     heads: &[usize; 32],
@@ -83,41 +79,33 @@ pub fn straight_line(
     requires { LineAsks file.now heads.now g f start st }
     ensures { LineSays file.now g start st result }
 {
-    let bound = f.bound;
-    let own = own_form(file, bound, st.splits);
-    let mut stack = [no_form(); 20];
-    let mut height: usize = 0;
-    while height < st.height {
-        stack[height] = entry_form(file, st, height);
-        height += 1;
+    let own = own_form(file, f.bound, &st.splits);
+    let mut stack = [no_form(); 16];
+    for i in 0..st.height {
+        stack[i] = entry_form(file, &st, i);
     }
+    let mut height = st.height;
     let mut j = start;
     loop {
-        let next = j + 1;
         let ins = instruction(file, instruction_offset(f.base, j - 1));
-        let m = maker_of(file, heads, ins);
-        if !m.makes {
+        let Some(m) = maker_of(file, heads, ins) else {
             let Instruction::Load(a) = ins else {
-                return Ok(next);
+                return Ok(j + 1);
             };
-            let x = stack[wide(a) - 1];
-            stack[height] = x;
+            stack[height] = stack[usize::from(a) - 1];
             height += 1;
-            j = next;
+            j += 1;
             continue;
-        }
+        };
         let at = height - m.arity;
-        let made = m.bound;
-        let arguments = [stack[at], stack[at + 1], stack[at + 2], stack[at + 3]];
-        let x = into_bound(file, made, m.arity, arguments);
-        if x.count == 0 {
+        let Some(x) = into_bound(file, m.bound, &stack[at..height]) else {
             return Err(Reason::TooManyForms(place(g, j)));
-        }
-        if !covered_by(own, x) {
-            return Err(Reason::NotCovered(place(g, next)));
+        };
+        j += 1;
+        if !covered_by(&own, &x) {
+            return Err(Reason::NotCovered(place(g, j)));
         }
         stack[at] = x;
         height = at + 1;
-        j = next;
     }
 }

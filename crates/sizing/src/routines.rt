@@ -1,13 +1,13 @@
 // What the walk reads of a function: its arity, bound and code; and what a build or a call takes and makes.
-ghost use Rattle.std.specs.Prelude.{◌+◌, ◌≤◌, length};
+ghost use Rattle.std.specs.Prelude.{◌≡◌, ◌+◌, ◌≤◌, length};
 ghost use Rattle.rules.specs.Container.{payload};
 ghost use Rattle.rules.specs.Records.{constructor_offset};
 ghost use Rattle.rules.specs.Established.{Verified};
 ghost use Rattle.rules.specs.There.{FunctionThere};
-ghost use Rattle.sizing.specs.Routines.{Records, RoutineIs, BuildIs, OperandThere, MakerIs};
+ghost use Rattle.sizing.specs.Routines.{Records, RoutineIs, built_maker, OperandThere, maker_in};
 
 use crate::bounds::Bound;
-use readers::{alternative_offset, constructor, constructor_offset, head, wide};
+use readers::{alternative_offset, constructor, constructor_offset, head};
 use rules::records::Instruction;
 
 // A function: its arity, its size bound, where its code starts, and how many instructions that has.
@@ -19,10 +19,9 @@ pub struct Routine {
     pub last: usize,
 }
 
-// Whether an instruction makes an entry, then of how many, and the size bound of that.
+// What makes an entry, of how many, and the size bound of that.
 #[derive(Clone, Copy)]
 pub struct Maker {
-    pub makes: bool,
     pub arity: usize,
     pub bound: Bound,
 }
@@ -33,64 +32,41 @@ pub fn routine_at(file: &[u8], at: usize) -> Routine
     ensures { RoutineIs (payload file.now) at result }
 {
     let h = head(file, at);
-    let d = h.declaration;
-    let count = wide(h.alternatives);
+    let count = usize::from(h.alternatives);
     Routine {
-        arity: wide(d.arity),
-        bound: Bound {
-            built: false,
-            weight: 0,
-            head: at,
-            count: count,
-        },
+        arity: usize::from(h.declaration.arity),
+        bound: Bound::Declared { head: at, count },
         base: alternative_offset(at, count),
-        last: h.instructions as usize,
+        last: usize::from(h.instructions),
     }
 }
 
 // A build of constructor c.
 fn build_maker(file: &[u8], c: usize) -> Maker
     requires { Verified file.now × (constructor_offset c + 8 ≤ length (payload file.now)) }
-    ensures { BuildIs (payload file.now) c result }
+    ensures { result ≡ built_maker (payload file.now) c }
 {
     let k = constructor(file, constructor_offset(c));
-    let d = k.declaration;
     Maker {
-        makes: true,
-        arity: wide(d.arity),
-        bound: Bound {
-            built: true,
-            weight: k.weight,
-            head: 0,
-            count: 1,
-        },
+        arity: usize::from(k.declaration.arity),
+        bound: Bound::Built { weight: k.weight },
     }
 }
 
-pub fn maker_of(file: &[u8], heads: &[usize; 32], ins: Instruction) -> Maker
+// What a build or a call makes; no other instruction makes an entry.
+pub fn maker_of(file: &[u8], heads: &[usize; 32], ins: Instruction) -> Option<Maker>
     requires { Records file.now heads.now × OperandThere (payload file.now) ins }
-    ensures { MakerIs (payload file.now) ins result }
+    ensures { result ≡ maker_in (payload file.now) ins }
 {
     match ins {
-        Instruction::Build(c) => build_maker(file, wide(c)),
+        Instruction::Build(c) => Some(build_maker(file, usize::from(c))),
         Instruction::Call(g) => {
-            let f = routine_at(file, heads[wide(g)]);
-            let bound = f.bound;
-            Maker {
-                makes: true,
+            let f = routine_at(file, heads[usize::from(g)]);
+            Some(Maker {
                 arity: f.arity,
-                bound: bound,
-            }
+                bound: f.bound,
+            })
         }
-        _ => Maker {
-            makes: false,
-            arity: 0,
-            bound: Bound {
-                built: true,
-                weight: 0,
-                head: 0,
-                count: 0,
-            },
-        },
+        _ => None,
     }
 }

@@ -6,7 +6,7 @@ ghost use Rattle.rules.specs.Records.{program_in};
 ghost use Rattle.sizing.specs.Put.{put};
 ghost use Rattle.sizing.specs.Splits.{weight_in, split_a, carried, WeightThere, SplitAsks, Carrying};
 
-use readers::{constructor, constructor_offset, wide};
+use readers::{constructor, constructor_offset};
 use rules::records::Alternative;
 
 // A variable taken apart: its constructor's arguments are the variables first, first + 1, .. in number parts.
@@ -30,8 +30,8 @@ fn weight_of(file: &[u8], p: Split) -> u32
     requires { Verified file.now × WeightThere file.now p }
     ensures { result ≡ weight_in (program_in file.now) p }
 {
-    let k = constructor(file, constructor_offset(wide(p.constructor)));
-    k.weight as u32
+    let k = constructor(file, constructor_offset(usize::from(p.constructor)));
+    u32::from(k.weight)
 }
 
 // An alternative after one split. Where it does not have the variable, it stays as it is.
@@ -39,9 +39,9 @@ pub fn add_split(file: &[u8], a: Alternative, p: Split) -> Alternative
     requires { Verified file.now × SplitAsks file.now a p }
     ensures { result ≡ put p.variable (split_a (program_in file.now) p) a }
 {
-    let v = p.variable as usize;
-    let first = p.first as usize;
-    let parts = p.parts as usize;
+    let v = usize::from(p.variable);
+    let first = usize::from(p.first);
+    let parts = usize::from(p.parts);
     let c = a.coefficients[v];
     let mut r = a;
     if c == 0 {
@@ -49,27 +49,21 @@ pub fn add_split(file: &[u8], a: Alternative, p: Split) -> Alternative
     }
     let w = weight_of(file, p);
     r.coefficients[v] = 0;
-    let mut j: usize = 0;
-    while j < parts {
-        r.coefficients[first + j] = r.coefficients[first + j] + c;
-        j += 1;
+    for j in 0..parts {
+        r.coefficients[first + j] += c;
     }
-    r.constant = a.constant + (c as u32) * w;
+    r.constant = a.constant + u32::from(c) * w;
     r
 }
 
 // An alternative after all splits.
-pub fn carry(file: &[u8], a: Alternative, s: Splits) -> Alternative
-    requires { Verified file.now × Carrying file.now a s.taken s.list }
-    ensures { result ≡ carried (program_in file.now) (take s.taken s.list) a }
+pub fn carry(file: &[u8], a: Alternative, s: &Splits) -> Alternative
+    requires { Verified file.now × Carrying file.now a s.now.taken s.now.list }
+    ensures { result ≡ carried (program_in file.now) (take s.now.taken s.now.list) a }
 {
-    let n = s.taken;
     let mut r = a;
-    let mut i: usize = 0;
-    while i < n {
-        let p = s.list[i];
-        r = add_split(file, r, p);
-        i += 1;
+    for i in 0..s.taken {
+        r = add_split(file, r, s.list[i]);
     }
     r
 }

@@ -11,73 +11,61 @@ use Rattle.sizing.proofs.forms.chosen.Goals as goal
 pub overflow_mul-n : goal.overflow_mul-n
 overflow_mul-n c =
     let s = c.requires in
-    let z : c.args.form.count * c.args.rest.count ≤ 256 = mul-le-mul {n₂ = 16} {m₂ = 16} s.1.right.few s.2.few in
+    let z : c.args.form.now.count * c.args.rest.now.count ≤ 256 = mul-le-mul {n₂ = 16} {m₂ = 16} s.1.right.few s.2.few in
     omega arith
 
 pub returns-then-n-gt16 : goal.returns-then-n-gt16
 returns-then-n-gt16 c =
-    choosing_many c.args.m c.args.form c.args.rest c.requires.1 c.requires.2 c.requires.3 c.requires.4
-    (λ z. absurd (omega (arith, z, c.requires.5))) c.if-n-gt16.true c.no_form-x.result c.no_form-x.ensures.1
+    choosing_many c.args.m c.args.form.now c.args.rest.now c.requires.1 c.requires.2 c.requires.3 c.requires.4
+    (λ z. absurd (omega (arith, z, c.requires.5))) c.if-n-gt16.true
 
 pub loop-i-init : goal.loop-i-init
-loop-i-init c = (
-  search rules,
-  choosing_start c.args.m c.args.form c.args.rest c.requires.1 c.requires.2 c.requires.3
-      c.requires.4 c.no_form-x.result c.no_form-x.ensures.0,
-)
+loop-i-init c =
+    choosing_start c.args.m c.args.form.now c.args.rest.now c.requires.1 c.requires.2 c.requires.3
+    c.requires.4 c.no_form-x.result c.no_form-x.ensures.0
 
 pub offset_bounds-form-i : goal.offset_bounds-form-i
 offset_bounds-form-i c =
-    let l = choice_first c.args.m c.args.form c.args.rest c.requires.1 c.requires.2 c.requires.3
-    c.requires.4 c.loop-i.i c.loop-i-test.true in
+    let l = choice_first c.args.m c.args.form.now c.args.rest.now c.requires.1 c.requires.2 c.requires.3
+    c.requires.4 c.loop-i.i (omega arith) in
     let f = c.requires.1.right.few in
     search rules
 
 pub bounds-form-i : goal.bounds-form-i
 bounds-form-i c =
-    let l = choice_first c.args.m c.args.form c.args.rest c.requires.1 c.requires.2 c.requires.3
-    c.requires.4 c.loop-i.i c.loop-i-test.true in
+    let l = choice_first c.args.m c.args.form.now c.args.rest.now c.requires.1 c.requires.2 c.requires.3
+    c.requires.4 c.loop-i.i (omega arith) in
     let f = c.requires.1.right.few in
     search rules
 
 pub offset_bounds-rest-i : goal.offset_bounds-rest-i
 offset_bounds-rest-i c =
-    let l = choice_second c.args.m c.args.form c.args.rest c.requires.1 c.requires.2 c.requires.3
-    c.requires.4 c.loop-i.i c.loop-i-test.true in
+    let l = choice_second c.args.m c.args.form.now c.args.rest.now c.requires.1 c.requires.2 c.requires.3
+    c.requires.4 c.loop-i.i (omega arith) in
     let f = c.requires.2.few in
     search rules
 
 pub bounds-rest-i : goal.bounds-rest-i
 bounds-rest-i c =
-    let l = choice_second c.args.m c.args.form c.args.rest c.requires.1 c.requires.2 c.requires.3
-    c.requires.4 c.loop-i.i c.loop-i-test.true in
+    let l = choice_second c.args.m c.args.form.now c.args.rest.now c.requires.1 c.requires.2 c.requires.3
+    c.requires.4 c.loop-i.i (omega arith) in
     let f = c.requires.2.few in
     search rules
 
 pub plus-requires : goal.plus-requires
 plus-requires c =
-    let b = choice_below c.args.m c.args.form c.args.rest c.requires.1 c.requires.2 c.requires.3
-    c.requires.4 c.loop-i.i c.loop-i-test.true in
+    let b = choice_below c.args.m c.args.form.now c.args.rest.now c.requires.1 c.requires.2 c.requires.3
+    c.requires.4 c.loop-i.i (omega arith) in
     (c.requires.0, b.0, b.1)
 
-pub offset_bounds-x-i : goal.offset_bounds-x-i
-offset_bounds-x-i c =
-    let f = c.if-n-gt16.false in let l = c.loop-i-test.true in omega arith
-
-pub bounds-x-i : goal.bounds-x-i
-bounds-x-i c =
-    let f = c.if-n-gt16.false in let l = c.loop-i-test.true in omega arith
-
 pub loop-i-preserved : goal.loop-i-preserved
-loop-i-preserved c = (
-  omega arith,
-  choosing_next c.args.m c.args.form c.args.rest c.requires.1 c.requires.2 c.requires.3
-      c.requires.4 c.loop-i.i c.loop-i-test.true c.if-n-gt16.false c.loop-i.x c.plus.result
-      c.loop-i.invariant.1 c.plus.ensures,
-)
+loop-i-preserved c =
+    choosing_next c.args.m c.args.form.now c.args.rest.now c.requires.1 c.requires.2 c.requires.3
+    c.requires.4 c.loop-i.i (omega arith) c.if-n-gt16.false c.loop-i.x c.plus.result
+    c.loop-i.invariant c.plus.ensures
 
 pub returns : goal.returns
 returns c =
-    let e : c.loop-i.i ≡ c.args.form.count * c.args.rest.count = omega arith in
-    choosing_end c.args.m c.args.form c.args.rest c.requires.1 c.requires.2 c.requires.3 c.requires.4
-    (λ z. absurd (omega (arith, z, c.requires.5))) c.if-n-gt16.false c.loop-i.x (rw e at c.loop-i.invariant.1)
+    let e : c.loop-i.i ≡ c.args.form.now.count * c.args.rest.now.count = omega arith in
+    choosing_end c.args.m c.args.form.now c.args.rest.now c.requires.1 c.requires.2 c.requires.3 c.requires.4
+    (λ z. absurd (omega (arith, z, c.requires.5))) c.if-n-gt16.false c.loop-i.x (rw e at c.loop-i.invariant)

@@ -5,7 +5,6 @@ use native.Mathlib.Omega.{arith}
 use native.Mathlib.Nat.{mul-le-mul}
 use Rattle.sizing.specs.Put.{coefficient}
 use Rattle.sizing.proofs.BuildLaws.{plus_next, plus_end}
-use borrow.Author.Rules.{rules}
 use Rattle.sizing.proofs.forms.plus.Goals as goal
 
 term : (m x : ℕ) → m ≤ 15 → x ≤ 15 → m * x ≤ 225
@@ -16,7 +15,7 @@ large m x h g = mul-le-mul {n₂ = 15} {m₂ = 131072} h g
 
 pub loop-i-init : goal.loop-i-init
 loop-i-init c =
-    (search rules, record { wide = c.requires.2.0; done = λ k l. absurd (omega arith); left = λ k l. refl; constant = refl })
+    record { wide = c.requires.2.0; done = λ k l. absurd (omega arith); left = λ k l. refl; constant = refl }
 
 pub overflow_mul-r : goal.overflow_mul-r
 overflow_mul-r c =
@@ -31,17 +30,17 @@ overflow_add-r c =
 pub loop-i-preserved : goal.loop-i-preserved
 loop-i-preserved c =
     let l = c.loop-i in
-    (search rules, plus_next c.args.m c.args.b c.args.a l.i l.r c.loop-i-test.true l.invariant.1)
+    plus_next c.args.m c.args.b c.args.a l.i l.r (omega arith) l.invariant
 
 pub overflow_mul-r-2 : goal.overflow_mul-r-2
 overflow_mul-r-2 c =
-    omega (arith, large c.args.m c.args.b.constant c.requires.0 c.requires.1.2)
+    rw c.from.ensures (omega (arith, large c.args.m c.args.b.constant c.requires.0 c.requires.1.2))
 
 pub overflow_add-r-2 : goal.overflow_add-r-2
 overflow_add-r-2 c =
-    omega (arith, large c.args.m c.args.b.constant c.requires.0 c.requires.1.2, c.requires.2.2)
+    rw c.from.ensures (omega (arith, large c.args.m c.args.b.constant c.requires.0 c.requires.1.2, c.requires.2.2))
 
 pub returns : goal.returns
 returns c =
     let l = c.loop-i in
-    plus_end c.args.m c.args.b c.args.a l.i l.r (omega arith) c.requires.2.0 c.requires.1.0 l.invariant.1
+    rw c.from.ensures (plus_end c.args.m c.args.b c.args.a l.i l.r (omega arith) c.requires.2.0 c.requires.1.0 l.invariant)

@@ -1,10 +1,7 @@
--- The arguments from t on are put in.
-use Prim.Native.Nat.{◌≤◌}
+-- The last i arguments are put in.
+use Rattle.std.proofs.Common.{◌-◌, length}
 use Rattle.sizing.proofs.SubstLaws.{Substituting}
 use Rattle.sizing.proofs.forms.substitute.Given as goal
 
-abbrev pub invariant-loop-t : goal.invariant-loop-t
-invariant-loop-t l = (l.t ≤ l.n) × Substituting l.row l.n l.arguments l.t l.rest
-
-abbrev pub decreases-loop-t : goal.decreases-loop-t
-decreases-loop-t l = l.t
+abbrev pub invariant-loop-i : goal.invariant-loop-i
+invariant-loop-i l = Substituting l.row l.arguments (length l.arguments - l.i) l.rest

@@ -1,7 +1,7 @@
 -- The first i rows are done.
 use mathlib.Core.Path.{◌≡◌, refl, sym, ap, ◌∙◌}
 use mathlib.Core.List.{List, [], ◌∷◌, ◌++◌}
-use Prim.Native.Nat.{ℕ, ◌+◌}
+use Prim.Native.Nat.{ℕ, ◌+◌, ◌<◌}
 use native.Mathlib.Omega.{arith}
 use lib.ListN.{take, length-set}
 use Rattle.rules.specs.declared.records.Alternative.{Alternative}
@@ -14,12 +14,11 @@ use Rattle.sizing.specs.declared.bounds.Bound.{Bound}
 use Rattle.sizing.specs.declared.splits.Splits.{Splits}
 use Rattle.sizing.specs.Put.{Wide, AllWide}
 use Rattle.sizing.specs.Splits.{carried}
-use Rattle.sizing.specs.Bounds.{row_in}
+use Rattle.sizing.specs.Bounds.{rows_in, row_in}
 use Rattle.sizing.specs.Steps.{own_row, own_after}
 use Rattle.sizing.proofs.ListLaws.{take_stored, numbered_next}
 use Rattle.sizing.proofs.SplitLaws.{carried_wide}
 use Rattle.sizing.proofs.OwnLaws.{widened_wide}
-use borrow.Author.Rules.{rules}
 use Rattle.sizing.proofs.line.own_form.Goals as goal
 
 own_wide : (file : List ℕ) (b : Bound) (s : Splits) (n : ℕ) → AllWide (numbered (own_after file b s) 0 n)
@@ -30,52 +29,55 @@ own_wide file b s n = numbered_all (own_after file b s) n 0 (λ i l. wide (row_i
 
 pub loop-i-init : goal.loop-i-init
 unfolding numbered
-loop-i-init c = (search rules, c.no_form-x.ensures.0.long, refl)
+loop-i-init c = record { long = c.no_form-x.ensures.0.long; same = refl }
 
 pub row_of-row-requires : goal.row_of-row-requires
 row_of-row-requires c =
-    (c.requires.0, c.requires.1.bound.there c.loop-i.i c.loop-i-test.true)
+    let r = c.rows-n.ensures in
+    (c.requires.0, c.requires.1.bound.there c.loop-i.i (omega (arith, c.loop-i-test.true)))
 
 pub widen-requires : goal.widen-requires
 widen-requires c =
-    rw c.row_of-row.ensures (c.requires.1.bound.each c.loop-i.i c.loop-i-test.true)
+    let r = c.rows-n.ensures in
+    rw c.row_of-row.ensures (c.requires.1.bound.each c.loop-i.i (omega (arith, c.loop-i-test.true)))
 
 pub carry-requires : goal.carry-requires
 carry-requires c =
-    let carrying = c.requires.1.carrying c.loop-i.i c.loop-i-test.true in
+    let r = c.rows-n.ensures in
+    let carrying = c.requires.1.carrying c.loop-i.i (omega (arith, c.loop-i-test.true)) in
     (c.requires.0, rw (c.widen.ensures, c.row_of-row.ensures) carrying)
 
-pub offset_bounds-x-i : goal.offset_bounds-x-i
-offset_bounds-x-i c = let f = c.requires.1.bound.few in omega arith
-
 pub bounds-x-i : goal.bounds-x-i
-bounds-x-i c = let f = c.requires.1.bound.few in omega arith
+bounds-x-i c = let r = c.rows-n.ensures in let f = c.requires.1.bound.few in omega (arith, c.loop-i-test.true)
 
 pub loop-i-preserved : goal.loop-i-preserved
 loop-i-preserved c =
     let x = c.loop-i.x in
     let i = c.loop-i.i in
+    let r = c.rows-n.ensures in
+    let h : i < c.rows-n.result = c.loop-i-test.true in
     let f = c.requires.1.bound.few in
-    let long = c.loop-i.invariant.1 in
-    let after = own_after c.args.file.now c.args.bound c.args.s in
-    let is : c.carry.result ≡ after i = rw (c.widen.ensures, c.row_of-row.ensures) at c.carry.ensures in (
-      omega arith,
-      length-set x.alternatives i c.carry.result ∙ long,
-      take_stored x.alternatives (numbered after 0 i) i c.carry.result (omega arith) c.loop-i.invariant.2
-          ∙ ap (λ (y : Alternative). numbered after 0 i ++ (y ∷ [])) is ∙ sym (numbered_next after i),
-    )
+    let long = c.loop-i.invariant.long in
+    let after = own_after c.args.file.now c.args.bound c.args.s.now in
+    let is : c.carry.result ≡ after i = rw (c.widen.ensures, c.row_of-row.ensures) at c.carry.ensures in
+    record {
+      long = length-set x.alternatives i c.carry.result ∙ long;
+      same = take_stored x.alternatives (numbered after 0 i) i c.carry.result (omega arith) c.loop-i.invariant.same
+          ∙ ap (λ (y : Alternative). numbered after 0 i ++ (y ∷ [])) is ∙ sym (numbered_next after i);
+    }
 
 pub returns : goal.returns
 returns c =
-    let e : c.loop-i.i ≡ c.args.bound.count = omega arith in
-    let same = rw e at c.loop-i.invariant.2 in
+    let r = c.rows-n.ensures in
+    let e : c.loop-i.i ≡ rows_in c.args.bound = omega arith in
+    let same = rw (e) at c.loop-i.invariant.same in
     let f = c.requires.1.bound.few in
-    record {
+    rw r (record {
       right = record {
         few = omega arith;
-        long = c.loop-i.invariant.1;
-        wide = rw same (own_wide c.args.file.now c.args.bound c.args.s c.args.bound.count);
+        long = c.loop-i.invariant.long;
+        wide = rw same (own_wide c.args.file.now c.args.bound c.args.s.now (rows_in c.args.bound));
       };
       count = refl;
       same = same;
-    }
+    })

@@ -7,10 +7,10 @@ use Rattle.sizing.specs.Splits.{spanned}
 use Rattle.sizing.proofs.splits.add_split.Given as goal
 
 abbrev pub invariant-loop-j : goal.invariant-loop-j
-invariant-loop-j l =
-    (l.j ≤ l.parts) × Wide l.r × (l.r.constant ≡ l.a.constant)
-    × (added l.c (spanned l.first l.parts l.w) (cleared l.v l.a) ≡ added l.c (spanned (l.first + l.j) (l.parts - l.j) l.w) l.r)
-    × ((i : ℕ) → l.first + l.j ≤ i → coefficient l.r i ≤ 15)
-
-abbrev pub decreases-loop-j : goal.decreases-loop-j
-decreases-loop-j l = l.parts - l.j
+invariant-loop-j l = record {
+  wide : Wide l.r;
+  constant : l.r.constant ≡ l.a.constant;
+  left : added l.c (spanned l.fn.p.first l.fn.p.parts l.w) (cleared l.fn.p.variable l.a)
+      ≡ added l.c (spanned (l.fn.p.first + l.j) (l.fn.p.parts - l.j) l.w) l.r;
+  low : (i : ℕ) → l.fn.p.first + l.j ≤ i → coefficient l.r i ≤ 15;
+}

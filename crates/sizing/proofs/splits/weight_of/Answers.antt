@@ -9,7 +9,7 @@ use Rattle.sizing.proofs.splits.weight_of.Goals as goal
 
 pub returns : goal.returns
 returns c =
-    ap (λ (k : ConstructorRecord). k.weight) c.constructor-k.ensures
+    c.from-2.ensures ∙ ap (λ (k : ConstructorRecord). k.weight) c.constructor-k.ensures
     ∙ ap (λ (at : ℕ). byte_at (payload c.args.file.now) (at + 6))
-    (c.constructor_offset.ensures ∙ ap constructor_offset c.wide.ensures.0)
+    (c.constructor_offset.ensures ∙ ap constructor_offset c.from.ensures)
     ∙ c.requires.1.weight
