@@ -8,7 +8,7 @@ use native.Mathlib.Numerals.{add-one}
 use native.Mathlib.Nat.{add-zero, add-suc, suc-add, add_comm, not-suc-le-zero, le_of_suc-le-suc}
 use lib.ListN.{length, take, drop, get_or, length-append, length-take, length-drop, length-replicate, get_or-append}
 use lib.ListN.{get_or-eq_default}
-use lib.Seq.{drop-cons, drop-drop, get_or-append-add, get_or-take, get_or-drop, length-take-le}
+use lib.Seq.{drop-drop, get_or-append-add, get_or-take, get_or-drop, length-take-le}
 use lib.Dec.{leb, ltb, eqb}
 use borrow.Author.Tests.{leb-true, ltb-true, ltb-false, eqb-true, eqb-false, eq-eqb, ne_eqb}
 use Rattle.rules.specs.Base.{found, refused, refusal, ◌>>=◌, passed, require, is_zero, all, byte_at, word_at, long_at}
@@ -35,12 +35,6 @@ check_next b i h =
     rw (add_comm 1 i, ← add-one i) at (weighed_next 1 b i h)
 
 ---- One block
-
--- a part from i to before `to` begins with its first element
-pub part_cons : (l : List ℕ) (i to : ℕ) → i < to → to ≤ length l → drop i (take to l) ≡ get_or l i 0 ∷ drop (i + 1) (take to l)
-part_cons l i to h h' =
-    let shorter : i < length (take to l) = simp (length-take-le to l h') h in
-    rw (drop-cons (take to l) i 0 shorter, get_or-take to l i 0 h, add-one i)
 
 pub used_small : (last : Bool) (n : ℕ) → used_right last n ≡ true → n ≤ 504
 unfolding used_right

@@ -5,10 +5,7 @@ use Prim.Native.Nat.{ℕ, ◌+◌, ◌-◌, ◌≤◌, ◌<◌}
 use native.Mathlib.Omega.{arith}
 use native.Mathlib.Nat.{sub-zero}
 use borrow.Author.Tests.{not-true, not-false}
-use Rattle.std.specs.Prelude.{Result}
-use Rattle.rules.specs.declared.answers.Reason.{Reason}
 use Rattle.rules.specs.Base.{Refusal, refused, Check, passed, require, for_each}
-use Rattle.rules.specs.Answers.{told}
 use Rattle.rules.proofs.EachLaws.{up_to}
 use Rattle.rules.proofs.NumberedLaws.{for_each_go, for_each_stop, for_each_none}
 
@@ -41,7 +38,3 @@ test_fails r {q} e n = sym e ∙ ap (λ (x : Bool). require x q) (not-true r n)
 
 pub test_holds : (r : Bool) (q : Refusal) {t : Check} → require r q ≡ t → not r ≡ false → t ≡ passed
 test_holds r q e n = sym e ∙ ap (λ (x : Bool). require x q) (not-false r n)
-
--- an answer whose variant is known
-pub told_as : {r s : Result Unit Reason} {t : Check} → told r ≡ t → r ≡ s → t ≡ told s
-told_as e q = sym e ∙ ap told q

@@ -1,9 +1,8 @@
 -- The loop of a pass over a function's code: a slot for each instruction holds the state that the instructions before it have handed on to
 -- it. One instruction more is two stores, of which slot 0 takes those that are none.
-use Rattle.std.specs.Prelude.{if◌then◌else◌}
+use Rattle.std.specs.Prelude.{if◌then◌else◌, Option, None, Some}
 use mathlib.Core.Path.{◌≡◌, refl, sym, ap, ◌∙◌}
 use mathlib.Core.List.{List, [], ◌∷◌, ◌++◌}
-use Rattle.std.specs.Prelude.{Option, None, Some}
 use mathlib.Core.Bool.{Bool, true, false}
 use Prim.Native.Nat.{ℕ, zero, suc, ◌≤◌, ◌<◌}
 use native.Mathlib.Omega.{arith}
@@ -34,7 +33,7 @@ along_numbered rule roots f last {code} is test =
 abbrev arrived : {S : Type 0} → Bool → Bool → S → S → List S
 arrived a b y z = if a then y ∷ (if b then z ∷ [] else []) else (if b then z ∷ [] else [])
 
-pub arriving_two : {S : Type 0} (on to j : ℕ) (y z : S) → 1 ≤ j
+arriving_two : {S : Type 0} (on to j : ℕ) (y z : S) → 1 ≤ j
     → arriving j (arrow_to on y ++ arrow_to to z) ≡ arrived (eqb on j) (eqb to j) y z
 unfolding arriving arrow_to
 arriving_two zero zero j y z h = rw (ne_eqb 0 j (λ e. omega arith))

@@ -1,6 +1,5 @@
 -- What the code's answers say, in the numbers and places of documents 01 and 02: `refusal_of` is the one definition of them.
-use Rattle.std.specs.Prelude.{if◌then◌else◌, List, [], ◌∷◌, ◌++◌, ℕ, length, get_or, leb}
-use Rattle.std.specs.Prelude.{Result, Ok, Err}
+use Rattle.std.specs.Prelude.{if◌then◌else◌, List, [], ◌∷◌, ◌++◌, ℕ, length, get_or, leb, Result, Ok, Err}
 use Rattle.rules.specs.declared.answers.Place.{Place}
 use Rattle.rules.specs.declared.answers.Reason.{Reason}
 use Rattle.rules.specs.declared.answers.Reason.TheVariants as reason

@@ -1,7 +1,6 @@
 -- The rule of 12 as document 01 words it: which argument bytes are right, and where wrong ones first go wrong.
 -- `argument_exact` of proofs/ArgumentExact.antt shows that the argument check answers just so.
-use Rattle.std.specs.Prelude.{◌≡◌, List, [], ◌∷◌, ◌++◌, ℕ, ◌≤◌, ◌<◌, length, take}
-use Rattle.std.specs.Prelude.{None, Some, slice_get}
+use Rattle.std.specs.Prelude.{◌≡◌, List, [], ◌∷◌, ◌++◌, ℕ, ◌≤◌, ◌<◌, length, take, None, Some, slice_get}
 use Rattle.rules.specs.Base.{Refusal, refusal, Decides}
 use Rattle.rules.specs.Program.{Constructor, Function, Program, constructor}
 use Rattle.rules.specs.Tree.{from_list}

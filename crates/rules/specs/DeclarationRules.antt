@@ -1,7 +1,6 @@
 -- Numbers 5 and 6 in document 01's own words: relations on a program, beside the passes that compute an answer.
 -- `declarations_exact` and `bounds_exact` of proofs/DeclarationsExact.antt show that the two agree on every program.
-use Rattle.std.specs.Prelude.{◌≡◌, List, ℕ, ◌≤◌, ◌<◌, length}
-use Rattle.std.specs.Prelude.{Some}
+use Rattle.std.specs.Prelude.{◌≡◌, List, ℕ, ◌≤◌, ◌<◌, length, Some}
 use Rattle.rules.specs.declared.records.Alternative.{Alternative}
 use Rattle.rules.specs.Base.{Refusal, refusal, Decides}
 use Rattle.rules.specs.Lists.{All, Any}

@@ -1,7 +1,6 @@
 -- What soundness gives the code and what holds of every run: numbers that fit, cases that do not come up, bytes that are read back, room
 -- that does not matter. Each is proved in proofs/.
-use Rattle.std.specs.Prelude.{◌≡◌, List, [], ◌∷◌, ℕ, ◌≤◌, ◌<◌, zero, suc, ◌*◌, length}
-use Rattle.std.specs.Prelude.{Some}
+use Rattle.std.specs.Prelude.{◌≡◌, List, [], ◌∷◌, ℕ, ◌≤◌, ◌<◌, zero, suc, ◌*◌, length, Some}
 use Rattle.rules.specs.declared.records.Alternative.{Alternative}
 use Rattle.rules.specs.declared.records.Instruction.TheVariants.{Branch}
 use Rattle.rules.specs.Lists.{All, Bytes}

@@ -1,6 +1,5 @@
 -- The run over heap cells, under a step budget and tables of given lengths.
-use Rattle.std.specs.Prelude.{List, [], ◌∷◌, ℕ, zero, suc, length}
-use Rattle.std.specs.Prelude.{Option, None, Some}
+use Rattle.std.specs.Prelude.{List, [], ◌∷◌, ℕ, zero, suc, length, Option, None, Some}
 use Rattle.rules.specs.Base.{refusal, Tried, found, refused, ◌>>=◌, or_refuse}
 use Rattle.rules.specs.Program.{Program}
 use Rattle.rules.specs.Machine.{◌>>=◌ as ◌>>=ᵒ◌, current, returned}

@@ -1,6 +1,5 @@
 -- Arguments and results in prefix order, one constructor number a byte, and the argument check, 12. Document 01, "The run".
-use Rattle.std.specs.Prelude.{List, [], ◌∷◌, ◌++◌, ◌&&◌, ℕ, suc, length, take, drop, leb, eqb}
-use Rattle.std.specs.Prelude.{Option, None, Some}
+use Rattle.std.specs.Prelude.{List, [], ◌∷◌, ◌++◌, ◌&&◌, ℕ, suc, length, take, drop, leb, eqb, Option, None, Some}
 use Rattle.rules.specs.Base.{refusal, Tried, found, refused, ◌>>=◌, Check, passed, require, or_refuse}
 use Rattle.rules.specs.Program.{Constructor, Function, Program, constructor}
 use Rattle.rules.specs.Tree.{Trees, node, nil, cons, made}

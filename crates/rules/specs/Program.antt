@@ -1,6 +1,5 @@
 -- A decoded program: its types, constructors and functions. Document 01 calls it a sheet.
-use Rattle.std.specs.Prelude.{List, ℕ, length}
-use Rattle.std.specs.Prelude.{Option, None, Some, slice_get}
+use Rattle.std.specs.Prelude.{List, ℕ, length, Option, None, Some, slice_get}
 use Rattle.rules.specs.declared.records.Alternative.{Alternative}
 use Rattle.rules.specs.declared.records.Instruction.{Instruction}
 

@@ -1,7 +1,6 @@
 -- The tally promise, which is demand 3: what holds of every accepted program, every entry function and all arguments of the declared types.
 -- This file only states it; `tally_promise` of proofs/Promise.antt proves it.
-use Rattle.std.specs.Prelude.{◌≡◌, List, [], ◌∷◌, ℕ, zero, suc, ◌+◌, ◌≤◌, ◌<◌, length}
-use Rattle.std.specs.Prelude.{Option, None, Some}
+use Rattle.std.specs.Prelude.{◌≡◌, List, [], ◌∷◌, ℕ, zero, suc, ◌+◌, ◌≤◌, ◌<◌, length, Option, None, Some}
 use Rattle.rules.specs.Lists.{All}
 use Rattle.rules.specs.declared.records.Instruction.TheVariants.{Call}
 use Rattle.rules.specs.Base.{Refusal, refusal, found, refused, passed}

@@ -1,6 +1,5 @@
 -- 001's assignment q, which gives each expression a size where its variables have sizes, and the condition of its Definition 3.
-use Rattle.std.specs.Prelude.{List, [], ◌∷◌, map, ℕ, ◌+◌, ◌≤◌, get_or}
-use Rattle.std.specs.Prelude.{Option, None, Some}
+use Rattle.std.specs.Prelude.{List, [], ◌∷◌, map, ℕ, ◌+◌, ◌≤◌, get_or, Option, None, Some}
 use Rattle.rules.specs.Lists.{All}
 use Rattle.rules.specs.Program.{Constructor, Function, Program, constructor, function}
 use Rattle.rules.specs.Tree.{Trees, node, nil, cons}

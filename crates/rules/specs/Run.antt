@@ -1,8 +1,7 @@
 -- The run under a step budget and tables of given lengths. Document 01, "The run" and "Numbers", and document 02, "Constants take no cell".
 -- What takes a cell, and how many cells can be used, is a parameter: each definition that asks for it is given under its name with "By",
 -- for any rule, and behind it under its plain name, by today's rule.
-use Rattle.std.specs.Prelude.{if◌then◌else◌, List, [], ◌∷◌, ℕ, zero, suc, ◌+◌, ◌/◌, min, length, leb}
-use Rattle.std.specs.Prelude.{Option, None, Some}
+use Rattle.std.specs.Prelude.{if◌then◌else◌, List, [], ◌∷◌, ℕ, zero, suc, ◌+◌, ◌/◌, min, length, leb, Option, None, Some}
 use Rattle.rules.specs.declared.records.Instruction.{Instruction}
 use Rattle.rules.specs.declared.records.Instruction.TheVariants.{Load, Build, Call, Branch, Return, Stop}
 use Rattle.rules.specs.Base.{Refusal, refusal, Tried, found, refused, ◌>>=◌, Check, require, or_refuse}

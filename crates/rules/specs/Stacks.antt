@@ -1,6 +1,5 @@
 -- Stacks of types, of expressions and of values: lists with the top last.
-use Rattle.std.specs.Prelude.{if◌then◌else◌, List, [], ◌∷◌, ◌++◌, ℕ, zero, suc, ◌-◌, length, take, drop, leb}
-use Rattle.std.specs.Prelude.{Option, None, Some, slice_get}
+use Rattle.std.specs.Prelude.{if◌then◌else◌, List, [], ◌∷◌, ◌++◌, ℕ, zero, suc, ◌-◌, length, take, drop, leb, Option, None, Some, slice_get}
 
 module _ {A : Type 0} where
   -- slot k, "1 is the lowest"; an instruction of a function's code is found in the same way, from 1

@@ -1,6 +1,5 @@
 -- Values: their sizes and types, and a size bound at given sizes. Document 01, "Weighted size" and "The machine".
-use Rattle.std.specs.Prelude.{◌≡◌, List, [], ◌∷◌, map, ℕ, ◌+◌, ◌*◌, max}
-use Rattle.std.specs.Prelude.{Option, None, Some}
+use Rattle.std.specs.Prelude.{◌≡◌, List, [], ◌∷◌, map, ℕ, ◌+◌, ◌*◌, max, Option, None, Some}
 use Rattle.rules.specs.declared.records.Alternative.{Alternative}
 use Rattle.rules.specs.Lists.{All2}
 use Rattle.rules.specs.Program.{Constructor, Program, constructor}
