@@ -1,74 +1,64 @@
 // The records of a payload, in file order, up to the record that is cut short or has a field out of its range.
 use crate::marks::marks_record;
-use crate::progress::write_cut;
-use crate::text::Line;
+use crate::text::{Stop, end, end_cut, write_line};
 use crate::{constructors, functions, text};
-use report::Numbers;
+use intake::Failure;
+use rules::answers::Reason;
 use rules::records::Header;
-use standing::header_in;
+use standing::find;
+use std::fmt;
 
 // A count, with the word for one or for several of what is counted.
-fn put_count(line: Line, count: u8, word: &[u8]) -> Line {
-    let begun = line.byte(b", ", count).put(b" ").put(word);
-    if count == 1 {
-        return begun;
+#[derive(Clone, Copy)]
+struct Counted(u8, &'static str);
+
+impl fmt::Display for Counted {
+    fn fmt<W: fmt::Write>(&self, f: &mut fmt::Formatter<W>) -> fmt::Result {
+        let Counted(count, word) = *self;
+        let ending = if count == 1 { "" } else { "s" };
+        write!(f, "{count} {word}{ending}")
     }
-    begun.put(b"s")
 }
 
-fn write_header(rt: &(impl Print + Eprint), header: Header, is_marked: bool) -> bool {
-    let edition = text::marked(is_marked).byte(b"edition ", header.edition);
-    let types = put_count(edition, header.types, b"type");
-    let constructors = put_count(types, header.constructors, b"constructor");
-    put_count(constructors, header.functions, b"function").write(rt)
+fn write_header(rt: &impl Print, header: Header, is_marked: bool) -> Result<(), Failure> {
+    let mark = text::mark(is_marked);
+    let types = Counted(header.types, "type");
+    let constructors = Counted(header.constructors, "constructor");
+    let functions = Counted(header.functions, "function");
+    write_line(
+        rt,
+        format_args!(
+            "{mark}edition {}, {types}, {constructors}, {functions}",
+            header.edition
+        ),
+    )
 }
 
-// What is behind the last record, where that is the place of the refusal.
-fn write_rest(rt: &(impl Print + Eprint), refusal: Numbers, at: usize) -> bool {
-    if !marks_record(refusal, at) {
-        return true;
-    }
-    if !text::write_gap(rt) {
-        return false;
-    }
-    text::marked(true)
-        .number(b"bytes are left over from here on, payload byte ", at)
-        .write(rt)
-}
-
-fn list_declared(
-    rt: &(impl Print + Eprint),
-    file: &[u8],
-    refusal: Numbers,
-    header: Header,
-) -> bool {
-    let constructors = constructors::list_constructors(rt, file, refusal, header.constructors);
-    if !constructors.on {
-        return constructors.written;
-    }
-    let functions = functions::list_functions(rt, file, refusal, header, constructors.at);
-    if !functions.on {
-        return functions.written;
-    }
-    write_rest(rt, refusal, functions.at)
-}
-
-// The answer is whether each line could be written.
-pub fn list_records(rt: &(impl Print + Eprint), file: &[u8], refusal: Numbers) -> bool {
-    if !text::write_gap(rt) {
-        return false;
-    }
-    let found = header_in(file);
-    if !found.there {
-        return write_cut(rt, b"the header", 0);
-    }
-    let header = found.header;
+fn list(rt: &impl Print, file: &[u8], refusal: Option<Reason>) -> Result<(), Stop> {
+    text::write_gap(rt)?;
+    let Some(header) = find::<Header>(file, 0) else {
+        return end_cut(rt, "the header", 0);
+    };
     let refused = marks_record(refusal, 0);
-    if !write_header(rt, header, refused) {
-        return false;
-    }
+    write_header(rt, header, refused)?;
     if refused {
-        return true;
+        return Err(Stop::Ended);
     }
-    list_declared(rt, file, refusal, header)
+    let first = constructors::list_constructors(rt, file, refusal, header.constructors)?;
+    let rest = functions::list_functions(rt, file, refusal, header, first)?;
+    if marks_record(refusal, rest) {
+        text::write_gap(rt)?;
+        return end(
+            rt,
+            format_args!("> bytes are left over from here on, payload byte {rest}"),
+        );
+    }
+    Ok(())
+}
+
+pub fn list_records(rt: &impl Print, file: &[u8], refusal: Option<Reason>) -> Result<(), Failure> {
+    match list(rt, file, refusal) {
+        Ok(()) | Err(Stop::Ended) => Ok(()),
+        Err(Stop::Failed(failure)) => Err(failure),
+    }
 }

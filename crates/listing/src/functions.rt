@@ -1,128 +1,85 @@
 // The functions that a program declares: for each its signature, its size bound and its code.
 use crate::marks::{marks_record, marks_signature};
-use crate::progress::{Progress, write_cut};
-use crate::signatures::{put_fields, put_signature};
+use crate::signatures::{Fields, Signature};
 use crate::states::Names;
-use crate::text::Line;
-use crate::{code, formulas, progress, text};
-use report::Numbers;
+use crate::text::{Stop, end, end_cut, write_line};
+use crate::{code, formulas, text};
+use rules::answers::Reason;
 use rules::records::{HeadRecord, Header};
-use standing::head_in;
+use standing::find;
 
-fn put_name(is_marked: bool, g: usize) -> Line {
-    text::marked(is_marked).number(b"function ", g)
-}
-
-fn write_function(rt: &(impl Print + Eprint), is_marked: bool, g: usize, head: HeadRecord) -> bool {
-    let d = head.declaration;
-    put_signature(put_name(is_marked, g), d).write(rt)
-}
-
-// A head with a field out of its range, as its bytes stand.
-fn write_refused(rt: &(impl Print + Eprint), g: usize, head: HeadRecord) -> bool {
-    let d = head.declaration;
-    put_fields(put_name(true, g), d)
-        .byte(b", alternatives ", head.alternatives)
-        .byte(b", reserved ", head.reserved)
-        .number(b", instructions ", head.instructions as usize)
-        .write(rt)
-}
-
-// What follows the head of function g, from an offset on.
-fn list_body(
-    rt: &(impl Print + Eprint),
-    file: &[u8],
-    refusal: Numbers,
-    names: Names,
-    g: usize,
-    head: HeadRecord,
-    at: usize,
-) -> Progress {
-    let bound = formulas::list_bound(rt, file, refusal, g, head.alternatives, at);
-    if !bound.on {
-        return bound;
-    }
-    code::list_code(rt, file, refusal, names, g, head, bound.at)
-}
-
-// Function g, whose head stands at an offset.
-fn list_function(
-    rt: &(impl Print + Eprint),
-    file: &[u8],
-    refusal: Numbers,
-    names: Names,
-    g: usize,
-    at: usize,
-) -> Progress {
-    if !text::write_gap(rt) {
-        return progress::ended(false);
-    }
-    let found = head_in(file, at);
-    if !found.there {
-        return progress::ended(write_cut(rt, b"a function head", at));
-    }
-    let head = found.head;
-    if marks_record(refusal, at) {
-        return progress::ended(write_refused(rt, g, head));
-    }
-    if !write_function(rt, marks_signature(refusal, g), g, head) {
-        return progress::ended(false);
-    }
-    list_body(
+// A head with a field out of its range ends the listing, as its bytes stand.
+fn list_refused(rt: &impl Print, g: usize, head: HeadRecord) -> Result<usize, Stop> {
+    let fields = Fields(head.declaration);
+    end(
         rt,
-        file,
-        refusal,
-        names,
-        g,
-        head,
-        progress::offset_behind(at, 10),
+        format_args!(
+            "> function {g}: {fields}, alternatives {}, reserved {}, instructions {}",
+            head.alternatives, head.reserved, head.instructions
+        ),
     )
 }
 
-// The functions of a program, the first of which stands at an offset.
-pub fn list_functions(
-    rt: &(impl Print + Eprint),
+// Function g, whose head stands at an offset. The answer is the offset behind it.
+fn list_function(
+    rt: &impl Print,
     file: &[u8],
-    refusal: Numbers,
-    header: Header,
+    refusal: Option<Reason>,
+    names: &Names,
+    g: usize,
     at: usize,
-) -> Progress {
-    let count = readers::wide(header.functions);
+) -> Result<usize, Stop> {
+    text::write_gap(rt)?;
+    let Some(head) = find::<HeadRecord>(file, at) else {
+        return end_cut(rt, "a function head", at);
+    };
+    if marks_record(refusal, at) {
+        return list_refused(rt, g, head);
+    }
+    let mark = text::mark(marks_signature(refusal, g));
+    let signature = Signature(head.declaration);
+    write_line(rt, format_args!("{mark}function {g}{signature}"))?;
+    let behind = at.saturating_add(10);
+    let code = formulas::list_bound(rt, file, refusal, g, head.alternatives, behind)?;
+    code::list_code(rt, file, refusal, names, g, head, code)
+}
+
+// The functions of a program, the first of which stands at an offset. The answer is the offset behind them.
+pub fn list_functions(
+    rt: &impl Print,
+    file: &[u8],
+    refusal: Option<Reason>,
+    header: Header,
+    first: usize,
+) -> Result<usize, Stop> {
     let names = Names {
         constructors: header.constructors,
         functions: header.functions,
-        heads: heads_from(file, at),
+        heads: heads_from(file, first),
     };
-    let mut p = progress::going(at, true);
-    let mut g: usize = 0;
-    while g < count {
-        if !p.on {
-            return p;
-        }
-        p = list_function(rt, file, refusal, names, g, p.at);
-        g += 1;
+    let mut at = first;
+    for g in 0..usize::from(header.functions) {
+        at = list_function(rt, file, refusal, &names, g, at)?;
     }
-    p
+    Ok(at)
 }
 
-// The offset behind a function, by what its head says.
-fn offset_behind_function(at: usize, head: HeadRecord) -> usize {
-    let bound = progress::offset_behind(at, 10);
-    let code = progress::offset_behind(bound, 6 * readers::wide(head.alternatives));
-    progress::offset_behind(code, 4 * (head.instructions as usize))
+// The size of a function's records, by what its head says. A head that is not there whole has nothing behind it.
+fn size_of(head: Option<HeadRecord>) -> usize {
+    match head {
+        Some(head) => {
+            10 + 6 * usize::from(head.alternatives) + 4 * usize::from(head.instructions)
+        }
+        None => 10,
+    }
 }
 
 // Where the heads of up to 32 functions stand, from the first one's offset on.
 fn heads_from(file: &[u8], first: usize) -> [usize; 32] {
-    let mut heads = [0usize; 32];
-    let mut at = first;
-    let mut g: usize = 0;
-    while g < 32 {
-        heads[g] = at;
-        let found = head_in(file, at);
-        let head = found.head;
-        at = offset_behind_function(at, head);
-        g += 1;
+    let mut heads = [first; 32];
+    for g in 1..32 {
+        let before = heads[g - 1];
+        heads[g] = before.saturating_add(size_of(find::<HeadRecord>(file, before)));
     }
     heads
 }

@@ -1,5 +1,5 @@
-use Rattle.std.proofs.Common.{◌-◌}
+use Rattle.std.proofs.Common.{◌≡◌, length}
 use Rattle.listing.proofs.code.list_code.Given as goal
 
-abbrev pub decreases-loop-k : goal.decreases-loop-k
-decreases-loop-k g l = l.last - l.k
+abbrev pub invariant-loop-i : goal.invariant-loop-i
+invariant-loop-i g l = length l.waiting ≡ 257
