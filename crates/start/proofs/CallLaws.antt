@@ -8,18 +8,16 @@ use lib.ListN.{length, get_or}
 use Rattle.rules.specs.declared.records.Header.{Header}
 use Rattle.rules.specs.declared.answers.Reason.{Reason}
 use Rattle.rules.specs.declared.answers.Reason.TheVariants as reason
-use Rattle.rules.specs.declared.answers.Checked.{Checked}
-use Rattle.rules.specs.declared.answers.Checked.TheVariants as rule
 use Rattle.rules.specs.declared.answers.Ending.TheVariants as ends
 use Rattle.rules.specs.declared.answers.Place.{Place}
-use Rattle.rules.specs.Base.{byte_at}
+use Rattle.rules.specs.Base.{byte_at, refused, passed}
 use Rattle.rules.specs.Container.{payload}
 use Rattle.rules.specs.Program.{function}
 use Rattle.rules.specs.Records.{function_of, program_of, program_in, function_in}
 use Rattle.rules.specs.Established.{Accepted, LaidOut}
 use Rattle.rules.specs.Prefix.{arguments_right, values}
 use Rattle.rules.specs.Run.{usable, cells_loaded, with_arguments}
-use Rattle.rules.specs.Answers.{told}
+use Rattle.rules.specs.Answers.{refusal_of}
 use Rattle.rules.proofs.NumberedLaws.{numbered_past}
 use Rattle.rules.proofs.RunLaws.{load_no_entry, load_bad_arguments, load_no_room}
 use Rattle.rules.proofs.ListLaws.{at_less}
@@ -30,6 +28,7 @@ use Rattle.store.specs.declared.limits.Limits.{Limits}
 use Rattle.fetch.specs.Indexed.{Indexed, function_arity}
 use Rattle.fetch.proofs.ArityLaws.{inputs_is}
 use Rattle.fetch.proofs.IndexLaws.{function_is, function_read}
+use Rattle.fetch.specs.declared.index.Index.{Index}
 use Rattle.arguments.specs.Reading.{HeadThere}
 use Rattle.start.specs.Begins.{Callable, Fitting}
 use Rattle.start.specs.Runs.{lent_of, Runs}
@@ -44,7 +43,7 @@ abbrev RefusedRun : List ℕ → ℕ → List ℕ → ℕ → List ℕ → List 
 RefusedRun file entry arguments budget cells stack frames out r =
     Runs file entry arguments budget cells stack frames out cells stack frames out (said (ends.Refused r) 0)
 
-module _ {file index : List ℕ} {entry : ℕ} {arguments : List ℕ} (k : Callable file index entry arguments) where
+module _ {file : List ℕ} {index : Index} {entry : ℕ} {arguments : List ℕ} (k : Callable file index entry arguments) where
   pub known_entry : entry < length (program_in file).functions
   known_entry = at_less (program_in file).functions entry k.known
 
@@ -132,20 +131,20 @@ module _ {file : List ℕ} (a : Accepted file) {header : Header} {heads : List �
         (load_no_entry with_arguments (program_in file) (usable (lent_of cells stack frames out)) entry arguments (no_function laid h))
 
     pub bad_arguments : entry < header.functions → {head : ℕ} → head ≡ get_or heads entry 0
-        → {c : Checked} → told c ≡ arguments_right (program_in file) (function_of (payload file) head) arguments
-        → (r : Reason) → c ≡ rule.Refused r → RefusedRun file entry arguments budget cells stack frames out r
-    bad_arguments h {head} at says r e =
+        → {r : Reason} → refused (refusal_of r) ≡ arguments_right (program_in file) (function_of (payload file) head) arguments
+        → RefusedRun file entry arguments budget cells stack frames out r
+    bad_arguments h {head} at {r} says =
         not_loaded file entry arguments budget cells stack frames out (accepted_checked a) r
         (load_bad_arguments with_arguments (program_in file) (usable (lent_of cells stack frames out)) entry arguments
-        (function_of (payload file) head) (known laid h at) (sym says ∙ ap told e))
+        (function_of (payload file) head) (known laid h at) (sym says))
 
   pub callable : entry < header.functions → {head : ℕ} → head ≡ get_or heads entry 0
-      → {c : Checked} → told c ≡ arguments_right (program_in file) (function_of (payload file) head) arguments
-      → {index : List ℕ} → Indexed file index → c ≡ rule.Right → Callable file index entry arguments
-  callable h {head} at says i e = record {
+      → passed ≡ arguments_right (program_in file) (function_of (payload file) head) arguments → {index : Index} → Indexed file index
+      → Callable file index entry arguments
+  callable h {head} at says i = record {
     accepted = a;
     indexed = i;
     f = function_of (payload file) head;
     known = known laid h at;
-    right = sym says ∙ ap told e;
+    right = sym says;
   }

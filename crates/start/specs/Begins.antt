@@ -1,6 +1,8 @@
 -- What the parts of a beginning ask and ensure.
-use Rattle.std.specs.Prelude.{◌≡◌, List, true, false, ℕ, ◌≤◌, ◌<◌, length}
-use Rattle.std.specs.Prelude.{Some}
+use Rattle.std.specs.Prelude.{◌≡◌, List, ℕ, ◌≤◌, ◌<◌, length}
+use Rattle.std.specs.Prelude.{Some, Result, Ok, Err}
+use Rattle.rules.specs.declared.answers.Reason.{Reason}
+use Rattle.rules.specs.declared.answers.Ending.TheVariants as ends
 use Rattle.rules.specs.Records.{program_in}
 use Rattle.rules.specs.Base.{passed}
 use Rattle.rules.specs.Heap.{allocated_for}
@@ -14,12 +16,13 @@ use Rattle.store.specs.Limits.{tables}
 use Rattle.store.specs.declared.frames.Frame.{Frame}
 use Rattle.store.specs.declared.limits.Limits.{Limits}
 use Rattle.fetch.specs.Indexed.{Indexed, code_at}
+use Rattle.fetch.specs.declared.index.Index.{Index}
 use Rattle.steps.specs.declared.state.Registers.{Registers}
-use Rattle.start.specs.declared.first.Begin.{Begin}
+use Rattle.start.specs.declared.first.Begun.{Begun}
 use Rattle.start.specs.Runs.{lent_of, Runs}
 
 -- an accepted program with its index, and an entry function whose arguments are right
-pub record Callable (file index : List ℕ) (entry : ℕ) (arguments : List ℕ) : Type 0 where
+pub record Callable (file : List ℕ) (index : Index) (entry : ℕ) (arguments : List ℕ) : Type 0 where
   pub accepted : Accepted file
   pub indexed : Indexed file index
   pub f : Function
@@ -27,7 +30,7 @@ pub record Callable (file index : List ℕ) (entry : ℕ) (arguments : List ℕ)
   pub right : arguments_right (program_in file) f arguments ≡ passed
 
 -- and tables with room for the start, with the function's n arguments
-pub record Beginning (file index : List ℕ) (m : Limits) (entry n : ℕ) (arguments : List ℕ) (budget : ℕ)
+pub record Beginning (file : List ℕ) (index : Index) (m : Limits) (entry n : ℕ) (arguments : List ℕ) (budget : ℕ)
     (cells stack : List ℕ) (frames : List Frame) (out : List ℕ) : Type 0 where
   pub callable : Callable file index entry arguments
   pub few : budget < 4294967296
@@ -38,7 +41,7 @@ pub record Beginning (file index : List ℕ) (m : Limits) (entry n : ℕ) (argum
   pub room : cells_loaded (program_in file) arguments ≤ m.cells
 
 -- whatever table of so many frames is lent
-abbrev pub Fitting : List ℕ → List ℕ → Limits → ℕ → ℕ → List ℕ → ℕ → List ℕ → List ℕ → ℕ → Type 0
+abbrev pub Fitting : List ℕ → Index → Limits → ℕ → ℕ → List ℕ → ℕ → List ℕ → List ℕ → ℕ → Type 0
 Fitting file index m entry n arguments budget cells stack count =
     (frames : List Frame) (out : List ℕ) → length frames ≡ count → Beginning file index m entry n arguments budget cells stack frames out
 
@@ -64,8 +67,6 @@ first entry code n used budget = record {
   used = used;
   depth = 0;
   left = budget;
-  callee = 0;
-  why = 0;
 }
 
 -- the arguments' cells are made, and the references to their values stand at the stack's bottom
@@ -78,7 +79,7 @@ pub record Loaded (s : Program) (arguments : List ℕ) (n : ℕ) (cells stack ce
 
 -- a run that has begun, on loaded tables
 pub record Prepared (file : List ℕ) (entry : ℕ) (arguments : List ℕ) (budget : ℕ) (cells stack : List ℕ) (count : ℕ)
-    (cells' stack' : List ℕ) (b : Begin) : Type 0 where
+    (cells' stack' : List ℕ) (b : Begun) : Type 0 where
   pub arity : ℕ
   pub small : Bytes file
   pub fitting : Fitting file b.index b.limits entry arity arguments budget cells stack count
@@ -86,8 +87,10 @@ pub record Prepared (file : List ℕ) (entry : ℕ) (arguments : List ℕ) (budg
   pub at_first : b.start ≡ first entry (code_at b.index entry) arity (cells_loaded (program_in file) arguments) budget
 
 -- it has begun, or the refusal is the run's answer, whatever else is lent
-pub record Prepares (file : List ℕ) (entry : ℕ) (arguments : List ℕ) (budget : ℕ) (cells stack : List ℕ) (count : ℕ)
-    (cells' stack' : List ℕ) (b : Begin) : Type 0 where
-  pub begins : b.begun ≡ true → Prepared file entry arguments budget cells stack count cells' stack' b
-  pub refuses : b.begun ≡ false → (frames : List Frame) (out : List ℕ) → length frames ≡ count
-      → Runs file entry arguments budget cells stack frames out cells' stack' frames out b.answer
+abbrev pub Prepares : List ℕ → ℕ → List ℕ → ℕ → List ℕ → List ℕ → ℕ → List ℕ → List ℕ → Result Begun Reason → Type 0
+Prepares file entry arguments budget cells stack count cells' stack' (Ok b) =
+    Prepared file entry arguments budget cells stack count cells' stack' b
+Prepares file entry arguments budget cells stack count cells' stack' (Err reason) =
+    (frames : List Frame) (out : List ℕ) → length frames ≡ count
+    → Runs file entry arguments budget cells stack frames out cells' stack' frames out
+    (record { ending = ends.Refused reason; steps = 0 })

@@ -3,22 +3,22 @@ ghost use Rattle.std.specs.Prelude.{◌<◌};
 ghost use Rattle.rules.specs.Established.{Accepted, LaidOut};
 ghost use Rattle.start.specs.Begins.{Callable, Prepares};
 
-use crate::first::{Begin, begun, load, not_begun};
+use crate::first::{Begun, load};
+use fetch::Index;
 use program::Layout;
-use readers::wide;
-use rules::answers::{Checked, Place, Reason};
+use rules::answers::{Place, Reason};
 
 // The run of a program whose arguments are right: 17, 16 and 15 for loading.
 fn begin_called(
     file: &[u8],
-    index: [u32; 64],
+    index: Index,
     entry: usize,
     arguments: &[u8],
     budget: usize,
     cells: &mut [u16],
     stack: &mut [u16],
     frames: usize,
-) -> Begin
+) -> Result<Begun, Reason>
     requires { Callable file.now index entry arguments.now × (budget < 4294967296) }
     ensures { Prepares file.now entry arguments.now budget cells.old stack.old frames
         cells.new stack.new result }
@@ -30,43 +30,41 @@ fn begin_called(
         instruction: 1,
     };
     if m.frames == 0 {
-        return not_begun(Reason::OutOfFrames(place));
+        return Err(Reason::OutOfFrames(place));
     }
     if m.stack < arity {
-        return not_begun(Reason::OutOfStack(place));
+        return Err(Reason::OutOfStack(place));
     }
     if !arguments::enough(file, arguments, m.cells) {
-        return not_begun(Reason::OutOfCells(place));
+        return Err(Reason::OutOfCells(place));
     }
     let start = load(file, &index, arguments, cells, stack, entry, arity, budget);
-    begun(index, m, start)
+    Ok(Begun {
+        index,
+        limits: m,
+        start,
+    })
 }
 
 // The run of an accepted program: 11 and 12.
 pub fn begin_accepted(
     file: &[u8],
-    layout: Layout,
+    layout: &Layout,
     entry: usize,
     arguments: &[u8],
     budget: usize,
     cells: &mut [u16],
     stack: &mut [u16],
     frames: usize,
-) -> Begin
-    requires { Accepted file.now × LaidOut file.now layout.header layout.heads × (budget < 4294967296) }
+) -> Result<Begun, Reason>
+    requires { Accepted file.now × LaidOut file.now layout.now.header layout.now.heads × (budget < 4294967296) }
     ensures { Prepares file.now entry arguments.now budget cells.old stack.old frames
         cells.new stack.new result }
 {
-    let header = layout.header;
-    let heads = layout.heads;
-    if entry >= wide(header.functions) {
-        return not_begun(Reason::NoEntry { entry: entry });
+    if entry >= usize::from(layout.header.functions) {
+        return Err(Reason::NoEntry { entry });
     }
-    let index = fetch::index_of(file, header, &heads);
-    let head = heads[entry];
-    let right = arguments::check_arguments(file, head, arguments);
-    if let Checked::Refused(reason) = right {
-        return not_begun(reason);
-    }
+    arguments::check_arguments(file, layout.heads[entry], arguments)?;
+    let index = fetch::index_of(file, layout);
     begin_called(file, index, entry, arguments, budget, cells, stack, frames)
 }

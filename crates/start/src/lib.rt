@@ -4,12 +4,12 @@
 
 ghost use Rattle.start.specs.Begins.{Prepares};
 
-use rules::answers::Verdict;
+use rules::answers::Reason;
 
 mod accepted; // accepted.rt: from an accepted program to a run that has begun
 mod first; // first.rt: the arguments' cells and the first frame
 
-pub use first::Begin;
+pub use first::Begun;
 
 // For the crates above: the program and the arguments are checked, and the arguments loaded.
 pub fn begin(
@@ -20,26 +20,19 @@ pub fn begin(
     cells: &mut [u16],
     stack: &mut [u16],
     frames: usize,
-) -> Begin
+) -> Result<Begun, Reason>
     ensures { Prepares file.now entry arguments.now budget cells.old stack.old frames
         cells.new stack.new result }
 {
-    let examined = verifier::examine(file);
-    let verdict = examined.verdict;
-    match verdict {
-        Verdict::Accepted(_) => {
-            let layout = examined.layout;
-            accepted::begin_accepted(
-                file,
-                layout,
-                entry as usize,
-                arguments,
-                budget as usize,
-                cells,
-                stack,
-                frames,
-            )
-        }
-        Verdict::Refused(reason) => first::not_begun(reason),
-    }
+    let layout = verifier::examine(file)?;
+    accepted::begin_accepted(
+        file,
+        &layout,
+        entry as usize,
+        arguments,
+        budget as usize,
+        cells,
+        stack,
+        frames,
+    )
 }

@@ -7,7 +7,7 @@ use Rattle.rules.specs.Run.{cells_loaded}
 use Rattle.start.proofs.BeginLaws.{bytes_all_lem}
 use Rattle.start.proofs.CallLaws.{few_functions, entry_there, inputs_are, out_of_frames, out_of_stack, out_of_cells, fitting}
 use Rattle.start.proofs.LoadLaws.{callable_loading, loading}
-use Rattle.start.proofs.PrepareLaws.{fits_some, refused_prepares, begun_prepares}
+use Rattle.start.proofs.PrepareLaws.{fits_some}
 use Rattle.start.proofs.accepted.begin_called.Goals as goal
 
 pub function_arity-arity-requires : goal.function_arity-arity-requires
@@ -16,13 +16,13 @@ function_arity-arity-requires c = let k = c.requires.0 in (k.indexed, entry_ther
 pub returns-then-m-eq0 : goal.returns-then-m-eq0
 returns-then-m-eq0 c =
     let k = c.requires.0 in
-    refused_prepares c.not_begun.ensures (λ frames out l. out_of_frames k _ _ _ frames out
+    (λ frames out l. out_of_frames k _ _ _ frames out
     (omega (arith, l, c.usable-m.ensures.2, c.if-m-eq0.true)))
 
 pub returns-then-m-arity : goal.returns-then-m-arity
 returns-then-m-arity c =
     let k = c.requires.0 in
-    refused_prepares c.not_begun-then-m-arity.ensures (λ frames out l. out_of_stack k _ _ _ frames out
+    (λ frames out l. out_of_stack k _ _ _ frames out
     (omega (arith, l, c.usable-m.ensures.2, c.if-m-eq0.false))
     (omega (
       arith,
@@ -40,7 +40,7 @@ returns-then-not-enough c =
     let k = c.requires.0 in
     let short = leb-false (cells_loaded (program_in c.args.file.now) c.args.arguments.now)
     c.usable-m.result.cells (sym c.enough.ensures ∙ c.if-not-enough.true) in
-    refused_prepares c.not_begun-then-not-enough.ensures (λ frames out l. out_of_cells k _ _ _ frames out
+    (λ frames out l. out_of_cells k _ _ _ frames out
     (omega (arith, l, c.usable-m.ensures.2, c.if-m-eq0.false))
     (omega (
       arith,
@@ -65,4 +65,4 @@ returns c =
     let fits = fitting k _ _ _ _ c.requires.1 c.usable-m.ensures c.function_arity-arity.ensures
     (omega (arith, c.if-m-eq0.false)) (omega (arith, c.if-m-arity.false)) room in
     let small = bytes_all_lem c.args.file.now (λ i. omega (arith, c.type_inv.file i)) in
-    begun_prepares c.begun.ensures small fits c.load-start.ensures.loaded c.load-start.ensures.value
+    record { arity = _; small = small; fitting = fits; loaded = c.load-start.ensures.loaded; at_first = c.load-start.ensures.value }
