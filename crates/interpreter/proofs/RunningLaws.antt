@@ -30,8 +30,10 @@ use Rattle.store.proofs.LimitLaws.{limits_kept, wiped_since, frames_since}
 use Rattle.store.proofs.RefLaws.{kept_trans, kept_later}
 use Rattle.fetch.specs.Indexed.{code_at}
 use Rattle.fetch.proofs.IndexLaws.{code_stands}
+use Rattle.fetch.specs.declared.index.Index.{Index}
 use Rattle.steps.specs.Stands.{waiting_on, state_in, Linked, SoundFrom, Laid, Standing, answers_on}
 use Rattle.machine.specs.Runs.{Begun, Ends, EndsAs}
+use Rattle.machine.specs.declared.run.End.{End}
 use Rattle.steps.specs.declared.state.Registers.{Registers}
 use Rattle.start.specs.Begins.{Beginning, first, Loaded}
 use Rattle.start.specs.Runs.{lent_of, Runs}
@@ -41,7 +43,7 @@ use Rattle.start.proofs.LoadLaws.{bytes_right, cells_are, stack_is, frames_are, 
 use Rattle.delivery.specs.Delivers.{Ended, Delivers}
 use Rattle.interpreter.proofs.SoundLaws.{has_begun, start_sound}
 
-module _ {file index : List ℕ} {m : Limits} {entry n : ℕ} {arguments : List ℕ} {budget : ℕ} {cells stack : List ℕ} {frames : List Frame}
+module _ {file : List ℕ} {index : Index} {m : Limits} {entry n : ℕ} {arguments : List ℕ} {budget : ℕ} {cells stack : List ℕ} {frames : List Frame}
     {out : List ℕ} (b : Beginning file index m entry n arguments budget cells stack frames out) where
   abbrev s : Program
   s = program_in file
@@ -117,11 +119,11 @@ module _ {file index : List ℕ} {m : Limits} {entry n : ℕ} {arguments : List 
     module _ {t : Registers} (q : t ≡ r) where
       pub begun : Begun file index m cells₁ stack₁ frames t
       unfolding frames_in
-      begun = rw q (record { indexed = b.callable.indexed; limits = limits₁; going = refl; instruction = 1; standing = standing })
+      begun = rw q (record { indexed = b.callable.indexed; limits = limits₁; instruction = 1; standing = standing })
 
-      module _ {cells₂ stack₂ : List ℕ} {frames₂ : List Frame} {u : Registers}
-          (e : Ends file m cells₁ stack₁ frames t cells₂ stack₂ frames₂ u) where
-        ends : (i : ℕ) × (ws : List Frame) × EndsAs file m budget says cells₂ stack₂ u i ws
+      module _ {cells₂ stack₂ : List ℕ} {frames₂ : List Frame} {u : Registers} {end : End}
+          (e : Ends file m cells₁ stack₁ frames t cells₂ stack₂ frames₂ u end) where
+        ends : (i : ℕ) × (ws : List Frame) × EndsAs file m budget says cells₂ stack₂ u i ws end
         unfolding frames_in
         ends =
             let z : budget - budget ≡ 0 = omega arith in
@@ -135,7 +137,7 @@ module _ {file index : List ℕ} {m : Limits} {entry n : ℕ} {arguments : List 
             e.spared.of_stack.len (frames_kept_length _ _ _ e.spared_frames)
 
         -- what delivering asks
-        pub ended : (i : ℕ) × (ws : List Frame) × Ended file m budget says cells₂ stack₂ u i ws
+        pub ended : (i : ℕ) × (ws : List Frame) × Ended file m budget says cells₂ stack₂ u i ws end
         ended =
             let (i, ws, x) = ends in (
               i,
