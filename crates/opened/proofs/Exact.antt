@@ -1,5 +1,5 @@
 -- Where the check accepts, the readers give the program's records: the bytes as they stand are the payload, and each record is there.
-use mathlib.Core.Path.{◌≡◌, refl, sym, ap, subst, ◌∙◌}
+use mathlib.Core.Path.{◌≡◌, refl, sym, ap, subst}
 use mathlib.Core.List.{List}
 use mathlib.Core.Bool.{true}
 use Rattle.std.specs.Prelude.{Option, None, Some}

@@ -12,7 +12,7 @@ use Rattle.rules.specs.Base.{Refusal, refusal, refused, ◌>>=◌, Check, passed
 use Rattle.rules.specs.Container.{payload}
 use Rattle.rules.specs.Records.{header_at, constructor_at, head_at, alternative_at, header_right, constructor_right, head_right, alternative_right}
 use Rattle.rules.specs.Records.{constructor_offset}
-use Rattle.rules.specs.Records.{alternative_offset, instruction_offset, code_offset, behind, head_offset, record_right, constructor_check}
+use Rattle.rules.specs.Records.{alternative_offset, code_offset, behind, head_offset, record_right, constructor_check}
 use Rattle.rules.specs.Records.{alternative_check, instruction_check, function_right, constructors_right, functions_right, nothing_left}
 use Rattle.rules.specs.Records.{records_right}
 use Rattle.program.specs.Nth.{nth_right}

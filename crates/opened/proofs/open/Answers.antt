@@ -1,5 +1,5 @@
 -- The check answers the verdict of the rules, and the counts are its own.
-use Rattle.std.proofs.Common.{◌≡◌, sym, ap, refl, ◌∙◌, Result, Ok, Err}
+use Rattle.std.proofs.Common.{◌≡◌, ap, refl, ◌∙◌, Result, Ok, Err}
 use Rattle.std.specs.Result.{result_unwrap_or}
 use Rattle.rules.specs.declared.answers.Counts.{Counts}
 use Rattle.rules.specs.declared.answers.Reason.{Reason}

@@ -1,5 +1,5 @@
 -- `all` looks at each field past the arity.
-use Rattle.std.proofs.Common.{rules, tests, length, take, drop, arith, take_all, ◌≡◌, ◌-◌, length-drop}
+use Rattle.std.proofs.Common.{rules, tests, take, drop, arith, take_all, ◌≡◌, ◌-◌, length-drop}
 use Rattle.std.proofs.lemmas.Iterator.{YieldsList-from_slice}
 use Rattle.std.proofs.lemmas.Iterator.Search.{all_from_yields_List}
 use Rattle.rules.specs.Base.{is_zero}

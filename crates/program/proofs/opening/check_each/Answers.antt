@@ -1,9 +1,6 @@
 -- `check_each` meets its contract: at each turn what is left to check is the records from `k` on.
-use Rattle.std.proofs.Common.{Bool, ℕ, ◌≡◌, ◌+◌, ◌*◌, ap, sym, arith, ◌∙◌}
+use Rattle.std.proofs.Common.{sym, arith}
 use Rattle.std.proofs.lemmas.Result.{err_from_is_err_and}
-use Rattle.rules.specs.Base.{Check}
-use Rattle.rules.specs.Container.{payload}
-use Rattle.rules.specs.Records.{record_right}
 use Rattle.rules.proofs.PassLaws.{pass_first, pass_stop, pass_next, pass_end}
 use Rattle.program.proofs.opening.check_each.Goals as goal
 
