@@ -3,30 +3,20 @@
 // the block's end.
 #![tactic(auto)]
 
-ghost use Rattle.std.specs.Prelude.{◌≡◌, ◌+◌, ◌≤◌, ◌<◌, length};
+ghost use Rattle.std.specs.Prelude.{◌≡◌, ◌+◌, ◌≤◌, length};
 ghost use Rattle.rules.specs.Container.{payload};
-ghost use Rattle.rules.specs.Records.{header_at, declaration_at, constructor_at, head_at, alternative_at, instruction_at, instruction_of};
+ghost use Rattle.rules.specs.Records.{declaration_at, constructor_at, head_at, alternative_at, instruction_at, instruction_of};
 ghost use Rattle.rules.specs.Records.{constructor_offset};
 ghost use Rattle.rules.specs.Established.{Verified};
 
 use fields::{left_in_block, place_of};
 use ranges::operation_of;
-use rules::records::{
-    AlternativeRecord, ConstructorRecord, Declaration, HeadRecord, Header, Instruction,
-    InstructionRecord,
-};
+use rules::records::{AlternativeRecord, ConstructorRecord, Declaration, HeadRecord, Instruction};
 
 mod offsets; // offsets.rt: where each record stands in the payload
 
 pub use fields::Record;
 pub use offsets::{alternative_offset, constructor_offset, instruction_offset};
-
-// For the crates above: a byte as an index or a count.
-pub fn wide(b: u8) -> usize
-    ensures { (result ≡ b) × (result < 256) }
-{
-    b as usize
-}
 
 // For the crates above: the record at an offset.
 pub fn read<R: Record>(file: &[u8], at: usize) -> R
@@ -39,14 +29,6 @@ pub fn read<R: Record>(file: &[u8], at: usize) -> R
         return R::read(file, place, R::SIZE);
     }
     R::read(file, place, left)
-}
-
-// For the crates above: the header, which stands at the first place of the first block.
-pub fn header(file: &[u8]) -> Header
-    requires { Verified file.now × (4 ≤ length (payload file.now)) }
-    ensures { result ≡ header_at (payload file.now) 0 }
-{
-    Header::read(file, 4, Header::SIZE)
 }
 
 // For the crates above: the declaration of constructor c. The first 62 end in the first block, where the place follows from the number: an
@@ -93,19 +75,11 @@ pub fn alternative(file: &[u8], at: usize) -> AlternativeRecord
     read(file, at)
 }
 
-// For the crates above: the bytes of the instruction at an offset.
-pub fn instruction_record(file: &[u8], at: usize) -> InstructionRecord
-    requires { Verified file.now × (at + 4 ≤ length (payload file.now)) }
-    ensures { result ≡ instruction_at (payload file.now) at }
-{
-    read(file, at)
-}
-
 // For the crates above: the instruction at an offset, where its record is right.
 #[tactic(auto, unfolding(rules::specs::Records::instruction_of))]
 pub fn instruction(file: &[u8], at: usize) -> Instruction
     requires { Verified file.now × (at + 4 ≤ length (payload file.now)) }
     ensures { result ≡ instruction_of (instruction_at (payload file.now) at) }
 {
-    operation_of(instruction_record(file, at)).unwrap_or(Instruction::Stop)
+    operation_of(read(file, at)).unwrap_or(Instruction::Stop)
 }
