@@ -4,9 +4,6 @@ use borrow.Author.Tests.{ltb-false}
 use Rattle.store.specs.Cells.{argument_in, cell_of, cells_to, CellRoom}
 use Rattle.store.proofs.cells.argument_at.Goals as goal
 
-pub overflow_sub-k : goal.overflow_sub-k
-overflow_sub-k c = omega (arith, ltb-false c.args.k 64 c.requires.2)
-
 pub bounds-cells-k : goal.bounds-cells-k
 unfolding CellRoom cells_to
 bounds-cells-k c =

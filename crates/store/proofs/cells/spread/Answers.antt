@@ -4,10 +4,6 @@ use borrow.Author.Tests.{ltb-false}
 use Rattle.store.specs.Cells.{arguments_in, cell_of, cells_to, CellRoom}
 use Rattle.store.proofs.cells.spread.Goals as goal
 
-pub overflow_sub-k : goal.overflow_sub-k
-overflow_sub-k c =
-    omega (arith, ltb-false c.args.k 64 c.requires.2)
-
 pub copy-requires : goal.copy-requires
 unfolding CellRoom cells_to
 copy-requires c =

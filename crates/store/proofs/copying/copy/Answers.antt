@@ -16,32 +16,17 @@ returns-then-n-eq1 c =
     let e : a.n ≡ 1 = omega arith in
     rw e (copied_one a.from.now a.at a.to a.out.now (omega arith))
 
-pub bounds-out-to-2 : goal.bounds-out-to-2
-bounds-out-to-2 c =
-    let a = c.args in
-    omega (arith, (copied_one a.from.now a.at a.to a.out.now (omega arith)).len)
-
 pub returns-then-n-eq2 : goal.returns-then-n-eq2
 returns-then-n-eq2 c =
     let a = c.args in
     let e : a.n ≡ 2 = omega arith in
     rw e (copied_two a.from.now a.at a.to a.out.now (omega arith))
 
-pub bounds-out-to-3 : goal.bounds-out-to-3
-bounds-out-to-3 c =
-    let a = c.args in
-    omega (arith, (copied_two a.from.now a.at a.to a.out.now (omega arith)).len)
-
 pub returns-then-n-eq3 : goal.returns-then-n-eq3
 returns-then-n-eq3 c =
     let a = c.args in
     let e : a.n ≡ 3 = omega arith in
     rw e (copied_three a.from.now a.at a.to a.out.now (omega arith))
-
-pub bounds-out-to-4 : goal.bounds-out-to-4
-bounds-out-to-4 c =
-    let a = c.args in
-    omega (arith, (copied_three a.from.now a.at a.to a.out.now (omega arith)).len)
 
 pub returns : goal.returns
 returns c =

@@ -16,47 +16,17 @@ returns-then-n-eq1 c =
     let e : a.n ≡ 1 = omega arith in
     rw e (copied_one a.s.now a.at a.to a.s.now (omega arith))
 
-pub bounds-s-at-2 : goal.bounds-s-at-2
-bounds-s-at-2 c =
-    let a = c.args in
-    omega (arith, (copied_one a.s.now a.at a.to a.s.now (omega arith)).len)
-
-pub bounds-s-to-2 : goal.bounds-s-to-2
-bounds-s-to-2 c =
-    let a = c.args in
-    omega (arith, (copied_one a.s.now a.at a.to a.s.now (omega arith)).len)
-
 pub returns-then-n-eq2 : goal.returns-then-n-eq2
 returns-then-n-eq2 c =
     let a = c.args in
     let e : a.n ≡ 2 = omega arith in
     rw e (again_two a.at a.to a.s.now (omega arith) (omega arith))
 
-pub bounds-s-at-3 : goal.bounds-s-at-3
-bounds-s-at-3 c =
-    let a = c.args in
-    omega (arith, (again_two a.at a.to a.s.now (omega arith) (omega arith)).len)
-
-pub bounds-s-to-3 : goal.bounds-s-to-3
-bounds-s-to-3 c =
-    let a = c.args in
-    omega (arith, (again_two a.at a.to a.s.now (omega arith) (omega arith)).len)
-
 pub returns-then-n-eq3 : goal.returns-then-n-eq3
 returns-then-n-eq3 c =
     let a = c.args in
     let e : a.n ≡ 3 = omega arith in
     rw e (again_three a.at a.to a.s.now (omega arith) (omega arith))
-
-pub bounds-s-at-4 : goal.bounds-s-at-4
-bounds-s-at-4 c =
-    let a = c.args in
-    omega (arith, (again_three a.at a.to a.s.now (omega arith) (omega arith)).len)
-
-pub bounds-s-to-4 : goal.bounds-s-to-4
-bounds-s-to-4 c =
-    let a = c.args in
-    omega (arith, (again_three a.at a.to a.s.now (omega arith) (omega arith)).len)
 
 pub returns : goal.returns
 returns c =
