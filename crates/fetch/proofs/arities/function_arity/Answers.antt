@@ -1,10 +1,7 @@
 -- The index has the place of the arity.
 use mathlib.Core.Path.{◌∙◌}
-use Rattle.fetch.proofs.IndexLaws.{function_small, inputs_stand}
+use Rattle.fetch.proofs.IndexLaws.{inputs_stand}
 use Rattle.fetch.proofs.arities.function_arity.Goals as goal
-
-pub arity_at-requires : goal.arity_at-requires
-arity_at-requires c = (function_small c.requires.0.parsed c.args.f c.requires.1).0
 
 pub bounds-file-arity_at : goal.bounds-file-arity_at
 bounds-file-arity_at c = (inputs_stand _ _ c.requires.0 c.args.f _ c.requires.1 c.arity_at.ensures).0

@@ -8,10 +8,6 @@ pub overflow_sub-result : goal.overflow_sub-result
 unfolding Inside
 overflow_sub-result c = omega arith
 
-pub overflow_sub-result-2 : goal.overflow_sub-result-2
-unfolding Inside
-overflow_sub-result-2 c = search rules
-
 pub returns : goal.returns
 unfolding offset_at
 returns c = search rules
