@@ -35,6 +35,7 @@ fn count_value(file: &&[u8], cells: &[u16], k: usize) -> usize
     let mut n = arity_of(file, cells, here);
     let mut total: usize = 1;
     let mut j: usize = 0;
+    // It goes round at another reference from argument 0 on, so it is no `for`.
     while j < n {
         let child = argument_at(cells, here, j);
         if is_constant(child) {
@@ -74,6 +75,7 @@ fn write_value(file: &&[u8], cells: &[u16], out: &mut [u8], k: usize, at: usize)
     out[at] = constructor_at(cells, here) as u8;
     let mut next = at + 1;
     let mut j: usize = 0;
+    // As in count_value it is no `for`. The two walks stay two: one over a closure would hand it down through each level of the recursion.
     while j < n {
         let child = argument_at(cells, here, j);
         if is_constant(child) {

@@ -13,11 +13,6 @@ argument_at-child-requires t c =
     let i = c.loop-j.invariant in
     (i.at.readable.room, i.at.readable.small, visit_cell i.at c.loop-j-test.true, omega (arith, counting_few i))
 
-pub overflow_add-total : goal.overflow_add-total
-overflow_add-total t c =
-    let whole = counting_whole c.loop-j.invariant c.loop-j-test.true c.argument_at-child.ensures.0 in
-    omega (arith, whole.0, whole.1, c.requires.k_len_bound)
-
 pub overflow_add-j : goal.overflow_add-j
 overflow_add-j t c = omega (arith, counting_few c.loop-j.invariant)
 
@@ -53,11 +48,6 @@ loop-j-preserved-then-j-n t c =
 
 pub arity_of-n-requires-else-j-n : goal.arity_of-n-requires-else-j-n
 arity_of-n-requires-else-j-n t c = visit_readable c.loop-j.invariant.at c.loop-j-test.true c.argument_at-child.ensures.0
-
-pub overflow_add-total-else-j-n : goal.overflow_add-total-else-j-n
-overflow_add-total-else-j-n t c =
-    let whole = counting_whole c.loop-j.invariant c.loop-j-test.true c.argument_at-child.ensures.0 in
-    omega (arith, whole.0, whole.1, c.requires.k_len_bound)
 
 pub loop-j-smaller : goal.loop-j-smaller
 loop-j-smaller t c =
