@@ -83,9 +83,6 @@ module _ {file : List ℕ} (parsed : Parsed file) where
   there : RecordsThere (payload file)
   there = records_there (payload file) parsed.records
 
-  pub header_there : 4 ≤ length (payload file)
-  header_there = there.header
-
   module _ (c known : ℕ) (ek : known ≡ byte_at (payload file) 2) where
     pub byte_unknown : known ≤ c → constructor (program_in file) c ≡ None
     unfolding program_of

@@ -21,6 +21,7 @@ fn cells_needed(file: &[u8], bytes: &[u8]) -> usize
     ensures { result ≡ cells_loaded (program_in file.now) bytes.now }
 {
     let mut needed = 0;
+    // No chain of filter and count: its closure would have to ask that each byte is a known constructor, and that is no plainer.
     for &c in bytes {
         if constructor_arity(file, usize::from(c)) != 0 {
             needed += 1;
