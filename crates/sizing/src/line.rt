@@ -74,15 +74,15 @@ pub fn straight_line(
     g: usize,
     f: Routine,
     start: usize,
-    st: Saved,
+    st: &Saved,
 ) -> Result<usize, Reason>
-    requires { LineAsks file.now heads.now g f start st }
-    ensures { LineSays file.now g start st result }
+    requires { LineAsks file.now heads.now g f start st.now }
+    ensures { LineSays file.now g start st.now result }
 {
     let own = own_form(file, f.bound, &st.splits);
     let mut stack = [no_form(); 16];
     for i in 0..st.height {
-        stack[i] = entry_form(file, &st, i);
+        stack[i] = entry_form(file, st, i);
     }
     let mut height = st.height;
     let mut j = start;

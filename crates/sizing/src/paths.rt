@@ -33,24 +33,25 @@ pub fn find_split(st: &Saved, v: u8) -> Option<Split>
 }
 
 // Slot k, from 0, on top.
-pub fn load_variable(st: Saved, k: usize) -> Saved
-    requires { (st.height < 16) × (k < st.height) × (length st.stack ≡ 16) }
-    ensures { SameSplits st result × (result.height ≡ st.height + 1) × (stack_in result ≡ stack_in st ++ (get_or (stack_in st) k 0 ∷ [])) }
+pub fn load_variable(st: &Saved, k: usize) -> Saved
+    requires { (st.now.height < 16) × (k < st.now.height) × (length st.now.stack ≡ 16) }
+    ensures { SameSplits st.now result × (result.height ≡ st.now.height + 1)
+        × (stack_in result ≡ stack_in st.now ++ (get_or (stack_in st.now) k 0 ∷ [])) }
 {
-    let mut r = st;
+    let mut r = *st;
     r.stack[st.height] = st.stack[k];
     r.height = st.height + 1;
     r
 }
 
 // The variables first, first + 1, .. in number parts, in place of the top.
-pub fn push_parts(st: Saved, first: u8, parts: u8) -> Saved
-    requires { (0 < st.height) × (st.height + parts ≤ 17) × (first + parts ≤ 16) × (length st.stack ≡ 16) }
-    ensures { SameSplits st result × (result.height ≡ st.height - 1 + parts)
-        × (stack_in result ≡ take (st.height - 1) st.stack ++ up_from first parts) }
+pub fn push_parts(st: &Saved, first: u8, parts: u8) -> Saved
+    requires { (0 < st.now.height) × (st.now.height + parts ≤ 17) × (first + parts ≤ 16) × (length st.now.stack ≡ 16) }
+    ensures { SameSplits st.now result × (result.height ≡ st.now.height - 1 + parts)
+        × (stack_in result ≡ take (st.now.height - 1) st.now.stack ++ up_from first parts) }
 {
     let base = st.height - 1;
-    let mut r = st;
+    let mut r = *st;
     for i in 0..parts {
         r.stack[base + usize::from(i)] = first + i;
     }
@@ -59,11 +60,11 @@ pub fn push_parts(st: Saved, first: u8, parts: u8) -> Saved
 }
 
 // A split more.
-pub fn add_taken(st: Saved, p: Split) -> Saved
-    requires { (st.splits.taken < 16) × (length st.splits.list ≡ 16) × (st.count + p.parts ≤ 16) }
-    ensures { SplitMore st p result }
+pub fn add_taken(st: &Saved, p: Split) -> Saved
+    requires { (st.now.splits.taken < 16) × (length st.now.splits.list ≡ 16) × (st.now.count + p.parts ≤ 16) }
+    ensures { SplitMore st.now p result }
 {
-    let mut r = st;
+    let mut r = *st;
     r.splits.list[st.splits.taken] = p;
     r.splits.taken = st.splits.taken + 1;
     r.count = st.count + usize::from(p.parts);
@@ -72,12 +73,12 @@ pub fn add_taken(st: Saved, p: Split) -> Saved
 
 // A branch on constructor c: both sides where the top is whole, and where its constructor is known the side that can be taken.
 // None where there would be more than 16 variables.
-pub fn branch_variable(st: Saved, c: u8, parts: u8) -> Option<Branched>
-    requires { BranchAsks st c parts }
-    ensures { Branching st c parts result }
+pub fn branch_variable(st: &Saved, c: u8, parts: u8) -> Option<Branched>
+    requires { BranchAsks st.now c parts }
+    ensures { Branching st.now c parts result }
 {
     let v = st.stack[st.height - 1];
-    if let Some(p) = find_split(&st, v) {
+    if let Some(p) = find_split(st, v) {
         if p.constructor == c {
             return Some(Branched {
                 next: Some(push_parts(st, p.first, parts)),
@@ -86,7 +87,7 @@ pub fn branch_variable(st: Saved, c: u8, parts: u8) -> Option<Branched>
         }
         return Some(Branched {
             next: None,
-            other: Some(st),
+            other: Some(*st),
         });
     }
     if st.count + usize::from(parts) > 16 {
@@ -101,7 +102,7 @@ pub fn branch_variable(st: Saved, c: u8, parts: u8) -> Option<Branched>
     };
     let more = add_taken(st, p);
     Some(Branched {
-        next: Some(push_parts(more, first, parts)),
-        other: Some(st),
+        next: Some(push_parts(&more, first, parts)),
+        other: Some(*st),
     })
 }

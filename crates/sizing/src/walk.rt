@@ -58,9 +58,9 @@ fn stay(on: usize) -> Moved
 }
 
 // A branch on constructor c, else b, at instruction i.
-fn branch(file: &[u8], g: usize, i: usize, st: Saved, c: u8, b: u16) -> Result<Moved, Reason>
-    requires { (heads : List ℕ) × MoveAsks file.now heads g i st (ins.Branch c b) }
-    ensures { StepSays file.now g i st result }
+fn branch(file: &[u8], g: usize, i: usize, st: &Saved, c: u8, b: u16) -> Result<Moved, Reason>
+    requires { (heads : List ℕ) × MoveAsks file.now heads g i st.now (ins.Branch c b) }
+    ensures { StepSays file.now g i st.now result }
 {
     let d = constructor_declaration(file, usize::from(c));
     let Some(r) = branch_variable(st, c, d.arity) else {
@@ -83,10 +83,10 @@ fn step(
     g: usize,
     f: Routine,
     i: usize,
-    st: Saved,
+    st: &Saved,
 ) -> Result<Moved, Reason>
-    requires { StepAsks file.now heads.now g f i st }
-    ensures { StepSays file.now g i st result }
+    requires { StepAsks file.now heads.now g f i st.now }
+    ensures { StepSays file.now g i st.now result }
 {
     let ins = instruction(file, instruction_offset(f.base, i - 1));
     match ins {
@@ -108,10 +108,10 @@ fn line_move(
     g: usize,
     f: Routine,
     i: usize,
-    st: Saved,
+    st: &Saved,
 ) -> Result<Moved, Reason>
-    requires { LineMoveAsks file.now heads.now g f i st }
-    ensures { StepSays file.now g i st result }
+    requires { LineMoveAsks file.now heads.now g f i st.now }
+    ensures { StepSays file.now g i st.now result }
 {
     let on = straight_line(file, heads, g, f, i, st)?;
     Ok(stay(on))
@@ -131,7 +131,7 @@ fn function_sizes(file: &[u8], heads: &[usize; 32], g: usize) -> Result<(), Reas
             i += 1;
             continue;
         };
-        let m = step(file, heads, g, f, i, st)?;
+        let m = step(file, heads, g, f, i, &st)?;
         if let Some((far, other)) = m.other {
             saved[far] = Some(other);
         }

@@ -27,7 +27,7 @@ goes : {file heads : List ℕ} {g : ℕ} {f : Routine} {start : ℕ} {st : Saved
 goes a o k e l = l _ (line_right_lem a refl o (rw e at k))
 
 here : (c : At-loop-m) → LineGoes c.args.file.now c.args.g c.args.start
-    (shape_in (function_in c.args.file.now c.args.g) c.args.st) c.own_form-own.result c.loop-m.stack c.loop-m.height c.loop-m.j
+    (shape_in (function_in c.args.file.now c.args.g) c.args.st.now) c.own_form-own.result c.loop-m.stack c.loop-m.height c.loop-m.j
 here c =
     goes c.requires c.own_form-own.ensures c.loop-i.invariant (omega (arith, c.loop-i-test.false, c.loop-i.auto.i-end)) c.loop-m.invariant
 
@@ -37,14 +37,14 @@ place c = at_place c.requires.walking c.requires.there (here c).at c.args.f.base
 
 -- the instruction that is read
 is : (c : After-instruction-ins) (l : LineGoes c.args.file.now c.args.g c.args.start
-    (shape_in (function_in c.args.file.now c.args.g) c.args.st) c.own_form-own.result c.loop-m.stack c.loop-m.height c.loop-m.j)
+    (shape_in (function_in c.args.file.now c.args.g) c.args.st.now) c.own_form-own.result c.loop-m.stack c.loop-m.height c.loop-m.j)
     → slot c.loop-m.j (function_in c.args.file.now c.args.g).code ≡ Some c.instruction-ins.result
 is c l =
     at_instruction c.requires.walking c.requires.there l.at c.args.f.base c.requires.routine.base
     c.instruction_offset.ensures c.instruction-ins.result c.instruction-ins.ensures
 
 load_asks : (c : In-Load) (l : LineGoes c.args.file.now c.args.g c.args.start
-    (shape_in (function_in c.args.file.now c.args.g) c.args.st) c.own_form-own.result c.loop-m.stack c.loop-m.height c.loop-m.j)
+    (shape_in (function_in c.args.file.now c.args.g) c.args.st.now) c.own_form-own.result c.loop-m.stack c.loop-m.height c.loop-m.j)
     → (slot c.loop-m.j (function_in c.args.file.now c.args.g).code ≡ Some (Load c.in-Load.a))
     × (1 ≤ c.in-Load.a) × (c.in-Load.a ≤ c.loop-m.height) × (c.loop-m.height < 16)
 load_asks c l =
@@ -55,7 +55,7 @@ load_asks c l =
 
 -- what a build or a call makes
 making : (c : In-Some) (l : LineGoes c.args.file.now c.args.g c.args.start
-    (shape_in (function_in c.args.file.now c.args.g) c.args.st) c.own_form-own.result c.loop-m.stack c.loop-m.height c.loop-m.j)
+    (shape_in (function_in c.args.file.now c.args.g) c.args.st.now) c.own_form-own.result c.loop-m.stack c.loop-m.height c.loop-m.j)
     → (slot c.loop-m.j (function_in c.args.file.now c.args.g).code ≡ Some c.instruction-ins.result)
     × Making c.requires l c.instruction-ins.result c.in-Some.m
 making c l =
@@ -65,7 +65,7 @@ making c l =
 
 -- the entries that it takes are there
 low : (c : In-Some) (l : LineGoes c.args.file.now c.args.g c.args.start
-    (shape_in (function_in c.args.file.now c.args.g) c.args.st) c.own_form-own.result c.loop-m.stack c.loop-m.height c.loop-m.j)
+    (shape_in (function_in c.args.file.now c.args.g) c.args.st.now) c.own_form-own.result c.loop-m.stack c.loop-m.height c.loop-m.j)
     → (c.in-Some.m.arity ≤ c.loop-m.height) × (c.loop-m.height - c.in-Some.m.arity < 16) × (c.loop-m.height ≤ 16)
 low c l =
     let k = making c l in

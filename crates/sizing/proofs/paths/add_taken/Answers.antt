@@ -6,13 +6,13 @@ use Rattle.sizing.proofs.paths.add_taken.Goals as goal
 
 pub returns : goal.returns
 returns c =
-    let s = c.args.st.splits in
+    let s = c.args.st.now.splits in
     let l = c.requires.1 in
     record {
-      count = ap (λ (k : ℕ). c.args.st.count + k) c.from.ensures;
+      count = ap (λ (k : ℕ). c.args.st.now.count + k) c.from.ensures;
       height = refl;
       stack = refl;
       taken = refl;
-      splits = take_stored s.list (splits_in c.args.st) s.taken c.args.p (omega arith) refl;
+      splits = take_stored s.list (splits_in c.args.st.now) s.taken c.args.p (omega arith) refl;
       long = length-set s.list s.taken c.args.p ∙ l;
     }

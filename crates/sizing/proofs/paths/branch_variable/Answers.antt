@@ -13,7 +13,7 @@ push_parts-requires c =
 
 pub returns-then-p-c : goal.returns-then-p-c
 returns-then-p-c c =
-    let st = c.args.st in
+    let st = c.args.st.now in
     let pre = c.requires in
     let p = c.in-Some.p in
     let fd = sym c.in-Some.ensures in
@@ -31,7 +31,7 @@ returns-in-Some c =
     let pre = c.requires in
     λ s n f i b k r known pn.
     record {
-      goes = branch_other s n f c.args.st r pre.some i b c.args.c k known c.in-Some.p (sym c.in-Some.ensures) c.if-p-c.false;
+      goes = branch_other s n f c.args.st.now r pre.some i b c.args.c k known c.in-Some.p (sym c.in-Some.ensures) c.if-p-c.false;
       next = tt;
       other = (r, refl);
     }
@@ -42,17 +42,17 @@ returns-then-st-from-gt16 c =
     let o = c.if-st-from-gt16.true in
     let w = c.from.ensures in
     λ s n f i b k r known pn.
-    branch_over s n f c.args.st r pre.some i b c.args.c k known (sym c.in_default.ensures) (omega arith)
+    branch_over s n f c.args.st.now r pre.some i b c.args.c k known (sym c.in_default.ensures) (omega arith)
 
 pub add_taken-more-requires : goal.add_taken-more-requires
 add_taken-more-requires c =
     let w = c.from.ensures in
     let o = c.if-st-from-gt16.false in
-    (c.requires.room (found_none (top_of c.args.st) (splits_in c.args.st) (sym c.in_default.ensures)), c.requires.list, omega arith)
+    (c.requires.room (found_none (top_of c.args.st.now) (splits_in c.args.st.now) (sym c.in_default.ensures)), c.requires.list, omega arith)
 
 pub returns : goal.returns
 returns c =
-    let st = c.args.st in
+    let st = c.args.st.now in
     let pre = c.requires in
     let e = c.push_parts-2.ensures in
     let a = c.add_taken-more.ensures in

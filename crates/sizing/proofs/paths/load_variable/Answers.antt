@@ -12,7 +12,7 @@ use Rattle.sizing.proofs.paths.load_variable.Goals as goal
 pub returns : goal.returns
 returns c =
     let l = c.requires.2 in
-    let st = c.args.st in
+    let st = c.args.st.now in
     let x = get_or st.stack c.args.k 0 in (
       record { count = refl; splits = refl; long = length-set st.stack st.height x ∙ l },
       refl,

@@ -23,7 +23,7 @@ place c =
 
 -- the instruction that is read
 move : (c : After-instruction-ins)
-    → MoveAsks c.args.file.now c.args.heads.now c.args.g c.args.i c.args.st c.instruction-ins.result
+    → MoveAsks c.args.file.now c.args.heads.now c.args.g c.args.i c.args.st.now c.instruction-ins.result
 move c =
     let p = c.requires in
     record {
