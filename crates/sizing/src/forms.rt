@@ -10,7 +10,7 @@ ghost use Rattle.sizing.specs.Bounds.{bound_in, BoundRight};
 use crate::bounds::{Bound, row_of, rows};
 use rules::records::{Alternative, AlternativeRecord};
 
-// A size form: its first count alternatives.
+// A size form: its first count alternatives. A list of its own length would be on the heap, which these crates have not.
 #[derive(Clone, Copy)]
 pub struct Form {
     pub alternatives: [Alternative; 16],
@@ -35,24 +35,18 @@ pub fn no_form() -> Form
     ensures { FormRight result × (result.count ≡ 0) }
 {
     Form {
-        alternatives: [Alternative {
-            coefficients: [0u16; 16],
-            constant: 0,
-        }; 16],
+        alternatives: [constant(0); 16],
         count: 0,
     }
 }
 
-// One alternative, a constant alone.
-pub fn constant_form(w: u32) -> Form
-    ensures { FormRight result × (result.count ≡ 1) × (form_in result ≡ constant_only w ∷ []) }
+// The alternative of a constant alone.
+pub fn constant(w: u32) -> Alternative
+    ensures { result ≡ constant_only w }
 {
-    Form {
-        alternatives: [Alternative {
-            coefficients: [0u16; 16],
-            constant: w,
-        }; 16],
-        count: 1,
+    Alternative {
+        coefficients: [0u16; 16],
+        constant: w,
     }
 }
 
@@ -61,10 +55,10 @@ pub fn single(a: Alternative) -> Form
     requires { Wide a }
     ensures { Single result a }
 {
-    let mut x = no_form();
-    x.alternatives[0] = a;
-    x.count = 1;
-    x
+    Form {
+        alternatives: [a; 16],
+        count: 1,
+    }
 }
 
 // a and m times b.
@@ -106,7 +100,7 @@ pub fn substitute(row: AlternativeRecord, arguments: &[Form]) -> Option<Form>
     ensures { FormMade result (substituted (take (length arguments.now) row.coefficients) row.constant (forms_in arguments.now)) }
 {
     let n = arguments.len();
-    let mut rest = constant_form(u32::from(row.constant));
+    let mut rest = single(constant(u32::from(row.constant)));
     for i in 0..n {
         let k = n - 1 - i;
         let m = u16::from(row.coefficients[k]);

@@ -55,16 +55,6 @@ pub fn entry_form(file: &[u8], st: &Saved, i: usize) -> Form
     single(carry(file, unit(v), &st.splits))
 }
 
-// An instruction of a function.
-fn place(function: usize, instruction: usize) -> Place
-    ensures { result ≡ record { function = function; instruction = instruction } }
-{
-    Place {
-        function,
-        instruction,
-    }
-}
-
 // The straight line of function g from instruction start on, a build or call: the number of the instruction behind its end. Only what is
 // new on the stack has to be tested, where it arrives: at the next instruction. The stack is filled here and not by a function that
 // returns it, since the compiler would then copy it.
@@ -99,11 +89,17 @@ pub fn straight_line(
         };
         let at = height - m.arity;
         let Some(x) = into_bound(file, m.bound, &stack[at..height]) else {
-            return Err(Reason::TooManyForms(place(g, j)));
+            return Err(Reason::TooManyForms(Place {
+                function: g,
+                instruction: j,
+            }));
         };
         j += 1;
         if !covered_by(&own, &x) {
-            return Err(Reason::NotCovered(place(g, j)));
+            return Err(Reason::NotCovered(Place {
+                function: g,
+                instruction: j,
+            }));
         }
         stack[at] = x;
         height = at + 1;

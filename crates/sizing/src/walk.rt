@@ -126,6 +126,7 @@ fn function_sizes(file: &[u8], heads: &[usize; 32], g: usize) -> Result<(), Reas
     let mut saved = [None; 258];
     saved[1] = Some(start_state(f.arity));
     let mut i = 1;
+    // No for: a straight line is gone along in one step.
     while i <= f.last {
         let Some(st) = saved[i] else {
             i += 1;

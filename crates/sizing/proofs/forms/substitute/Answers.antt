@@ -2,14 +2,18 @@
 use Rattle.std.proofs.Common.{◌≡◌, ◌+◌, ◌-◌, ◌<◌, length, arith}
 use Rattle.sizing.proofs.SubstLaws.{substituting_start, substituting_skip, substituting_asks, substituting_next}
 use Rattle.sizing.proofs.SubstLaws.{substituting_many, substituting_one_asks, substituting_one}
+use Rattle.sizing.proofs.PutLaws.{constant_wide}
 use Rattle.sizing.proofs.forms.substitute.Goals as goal
+
+pub single-rest-requires : goal.single-rest-requires
+single-rest-requires c = rw c.constant.ensures (constant_wide c.from.result)
 
 pub loop-i-init : goal.loop-i-init
 loop-i-init c =
-    let e = c.constant_form-rest.ensures in
+    let e = c.single-rest.ensures in
     let z : length c.args.arguments.now - 0 ≡ length c.args.arguments.now = omega arith in
-    rw z (substituting_start c.args.row c.args.arguments.now c.requires.0 c.requires.1 c.constant_form-rest.result e.0 e.1
-    (rw c.from.ensures at e.2))
+    rw z (substituting_start c.args.row c.args.arguments.now c.requires.0 c.requires.1 c.single-rest.result e.right e.one
+    (rw (c.constant.ensures, c.from.ensures) at e.same))
 
 pub loop-i-preserved-then-m-eq0 : goal.loop-i-preserved-then-m-eq0
 loop-i-preserved-then-m-eq0 c =

@@ -182,10 +182,10 @@ pub returns-in_default-into_bound : goal.returns-in_default-into_bound
 returns-in_default-into_bound c =
     let l = here (goal.at.returns-in_default-into_bound c).At-loop-m in
     let k = making (goal.at.returns-in_default-into_bound c).In-Some l in
-    rw c.place.ensures (record {
+    record {
       left = line_large c.requires l c.instruction-ins.result k.0 c.in-Some.m k.1 c.in_default-into_bound.ensures;
       further = tt;
-    })
+    }
 
 pub overflow_add-j : goal.overflow_add-j
 overflow_add-j c = omega (arith, (place (goal.at.overflow_add-j c).At-loop-m).2)
@@ -198,12 +198,12 @@ pub returns-then-not-covered_by : goal.returns-then-not-covered_by
 returns-then-not-covered_by c =
     let l = here (goal.at.returns-then-not-covered_by c).At-loop-m in
     let k = making (goal.at.returns-then-not-covered_by c).In-Some l in
-    rw c.place-then-not-covered_by.ensures (record {
+    record {
       left =
           line_uncovered c.requires l c.instruction-ins.result k.0 c.in-Some.m k.1 c.in-Some-into_bound.x
           c.in-Some-into_bound.ensures (sym c.covered_by.ensures ∙ c.if-not-covered_by.true);
       further = tt;
-    })
+    }
 
 pub offset_bounds-stack-at-in-loop-m : goal.offset_bounds-stack-at-in-loop-m
 offset_bounds-stack-at-in-loop-m c =
