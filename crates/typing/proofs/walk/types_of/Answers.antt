@@ -7,7 +7,8 @@ use Rattle.program.proofs.LayoutLaws.{functions_few, head_placed, function_place
 use Rattle.program.proofs.CodeLaws.{code_there, code_short, code_read}
 use Rattle.operands.proofs.OperationLaws.{stack_length}
 use Rattle.typing.proofs.SignatureLaws.{flow_placed, own_result, own_start}
-use Rattle.typing.proofs.TypeWalk.{typing_start, typing_listed, typing_wrong, typing_ends, typing_one, typing_two, room_one, room_two, typing_end}
+use Rattle.typing.proofs.TypeWalk.{typing_start, typing_listed, typing_wrong, typing_ends, typing_one, typing_two, typing_end}
+use Rattle.typing.proofs.TypeWalk.{room_one, room_two}
 use Rattle.typing.proofs.walk.types_of.Goals.{In-Both, in-Ends, in-Next, in-Both}
 use Rattle.typing.proofs.walk.types_of.Goals as goal
 
@@ -37,7 +38,8 @@ loop-k-init c =
     typing_start _ _ _ _
     (code_there o.headed.parsed.verified (function_placed o g c.requires.2) c.code_at-code.ensures)
     (flow_placed o g c.requires.0.flow c.requires.2) c.empty-none.result c.push_arguments.result
-    (own_start _ _ c.declaration-signature.ensures c.empty-none.result c.push_arguments.result c.empty-none.ensures c.push_arguments.ensures)
+    (own_start _ _ c.declaration-signature.ensures c.empty-none.result c.push_arguments.result c.empty-none.ensures
+    c.push_arguments.ensures)
 
 pub listed : goal.listed
 listed c = typing_listed _ _ _ _ c.loop-k.invariant (omega arith)
@@ -56,11 +58,14 @@ loop-k-preserved c =
     let says = c.type_step.ensures c.args.g (c.loop-k.k + 1) (function_of _ _) (own_result _ _ c.declaration-signature.ensures) in
     elim c.match-step.branch [
       | in-Ends w ↦ rw w.waiting-is
-          (typing_ends _ _ _ _ c.loop-k.invariant (omega arith) c.index-waiting-i.result refl read says (c.in-Some.is ∙ ap Some w.in-Ends.is))
+          (typing_ends _ _ _ _ c.loop-k.invariant (omega arith) c.index-waiting-i.result refl read says
+          (c.in-Some.is ∙ ap Some w.in-Ends.is))
       | in-Next w ↦ rw w.waiting-is
-          (typing_one _ _ _ _ c.loop-k.invariant (omega arith) c.index-waiting-i.result refl read says (c.in-Some.is ∙ ap Some w.in-Next.is))
+          (typing_one _ _ _ _ c.loop-k.invariant (omega arith) c.index-waiting-i.result refl read says
+          (c.in-Some.is ∙ ap Some w.in-Next.is))
       | in-Both w ↦ rw w.waiting-is
-          (typing_two _ _ _ _ c.loop-k.invariant (omega arith) c.index-waiting-i.result refl read says (c.in-Some.is ∙ ap Some w.in-Both.is))
+          (typing_two _ _ _ _ c.loop-k.invariant (omega arith) c.index-waiting-i.result refl read says
+          (c.in-Some.is ∙ ap Some w.in-Both.is))
     ]
 
 pub bounds-waiting-i-in-Next : goal.bounds-waiting-i-in-Next
