@@ -3,7 +3,9 @@ use mathlib.Core.Path.{◌≡◌, sym, ap, ◌∙◌}
 use mathlib.Core.List.{List}
 use Prim.Native.Nat.{ℕ}
 use native.Mathlib.Omega.{arith}
-use Rattle.std.specs.Prelude.{Result, Ok, Err}
+use Rattle.std.specs.Prelude.{Result, Ok}
+use Rattle.std.specs.Result.{IsErrAnd}
+use Rattle.std.proofs.lemmas.Result.{err_from_is_err_and}
 use Rattle.rules.specs.declared.answers.Reason.{Reason}
 use Rattle.rules.specs.Base.{Refusal, ◌>>=◌, found, refused, passed, Check, byte_at}
 use Rattle.rules.specs.Container.{verify, verified, payload}
@@ -50,9 +52,12 @@ module _ {file : List ℕ} {layout : Layout} (l : LaidOut file layout.header lay
 
 ---- The verdict
 
-pub refused_examined : {file : List ℕ} {r : Result Layout Reason} {e e' : Reason} → r ≡ Err e' → e' ≡ e
+-- what the exit of a `?` returns
+pub refused_examined : {file : List ℕ} {r : Result Layout Reason} (e : Reason) → IsErrAnd r (λ e'. e' ≡ e)
     → checked file ≡ refused (refusal_of e) → ExaminedRight file r
-refused_examined {file} q q' w = rw (q, q') (record { says = sym (verdict_refused file w); refuses = w; accepted = tt })
+refused_examined {file} {r} e h w =
+    let p = err_from_is_err_and r h in
+    rw (p.1, p.2) (record { says = sym (verdict_refused file w); refuses = w; accepted = tt })
 
 pub accepted_examined : {file : List ℕ} {layout : Layout} → LaidOut file layout.header layout.heads → Accepted file
     → ExaminedRight file (Ok layout)
