@@ -7,8 +7,36 @@ ghost use Rattle.lending.specs.Here.{RunsHere};
 use rules::answers::Answer;
 use store::Frame;
 
-// For the crates above: a run on n blank records of its own, of which there are few. It is thin: a table, and one call. The table is
-// filled for every run, so the one of a short run is small.
+// For the crates above: a run on n blank records of its own, from a table of N. It is thin: a table, and one call. The table is filled for
+// every run, so the one of a short run is small.
+pub fn run_on<const N: usize>(
+    file: &[u8],
+    entry: u32,
+    arguments: &[u8],
+    budget: u32,
+    cells: &mut [u16],
+    stack: &mut [u16],
+    n: usize,
+    out: &mut [u8],
+) -> Answer
+    requires { (n ≤ N) × (N ≤ 65535) }
+    ensures { RunsHere file.now entry arguments.now budget cells.old stack.old n
+        out.old cells.new stack.new out.new result }
+{
+    let mut table = [Frame::default(); N];
+    interpreter::run(
+        file,
+        entry,
+        arguments,
+        budget,
+        cells,
+        stack,
+        &mut table[..n],
+        out,
+    )
+}
+
+// For the crates above: the same in the smallest table, under the name that panel calls.
 pub fn run_small(
     file: &[u8],
     entry: u32,
@@ -23,88 +51,7 @@ pub fn run_small(
     ensures { RunsHere file.now entry arguments.now budget cells.old stack.old n
         out.old cells.new stack.new out.new result }
 {
-    let blank = Frame {
-        function: 0,
-        instruction: 0,
-        height: 0,
-    };
-    let mut table = [blank; 256];
-    interpreter::run(
-        file,
-        entry,
-        arguments,
-        budget,
-        cells,
-        stack,
-        &mut table[..n],
-        out,
-    )
-}
-
-// The same with a table of some thousands.
-fn run_medium(
-    file: &[u8],
-    entry: u32,
-    arguments: &[u8],
-    budget: u32,
-    cells: &mut [u16],
-    stack: &mut [u16],
-    n: usize,
-    out: &mut [u8],
-) -> Answer
-    requires { n ≤ 4096 }
-    ensures { RunsHere file.now entry arguments.now budget cells.old stack.old n
-        out.old cells.new stack.new out.new result }
-{
-    let blank = Frame {
-        function: 0,
-        instruction: 0,
-        height: 0,
-    };
-    let mut table = [blank; 4096];
-    interpreter::run(
-        file,
-        entry,
-        arguments,
-        budget,
-        cells,
-        stack,
-        &mut table[..n],
-        out,
-    )
-}
-
-// The same on as many records as a run can have.
-fn run_large(
-    file: &[u8],
-    entry: u32,
-    arguments: &[u8],
-    budget: u32,
-    cells: &mut [u16],
-    stack: &mut [u16],
-    n: usize,
-    out: &mut [u8],
-) -> Answer
-    requires { n ≤ 65535 }
-    ensures { RunsHere file.now entry arguments.now budget cells.old stack.old n
-        out.old cells.new stack.new out.new result }
-{
-    let blank = Frame {
-        function: 0,
-        instruction: 0,
-        height: 0,
-    };
-    let mut table = [blank; 65535];
-    interpreter::run(
-        file,
-        entry,
-        arguments,
-        budget,
-        cells,
-        stack,
-        &mut table[..n],
-        out,
-    )
+    run_on::<256>(file, entry, arguments, budget, cells, stack, n, out)
 }
 
 // The same run with a frame table of its own, of as many records as are usable, in the shortest table that has them. No parameter
@@ -124,10 +71,10 @@ pub fn run_here(
 {
     let m = store::usable(cells.len(), stack.len(), frames);
     if m.frames <= 256 {
-        return run_small(file, entry, arguments, budget, cells, stack, m.frames, out);
+        return run_on::<256>(file, entry, arguments, budget, cells, stack, m.frames, out);
     }
     if m.frames <= 4096 {
-        return run_medium(file, entry, arguments, budget, cells, stack, m.frames, out);
+        return run_on::<4096>(file, entry, arguments, budget, cells, stack, m.frames, out);
     }
-    run_large(file, entry, arguments, budget, cells, stack, m.frames, out)
+    run_on::<65535>(file, entry, arguments, budget, cells, stack, m.frames, out)
 }

@@ -14,12 +14,12 @@ module _ {file arguments cells stack out cells' stack' out' : List ℕ} {entry b
 
 pub returns-then-m-le256 : goal.returns-then-m-le256
 returns-then-m-le256 c =
-    counted (search rules) c.run_small.ensures
+    counted (search rules) c.run_on.ensures
 
 pub returns-then-m-le4096 : goal.returns-then-m-le4096
 returns-then-m-le4096 c =
-    counted (search rules) c.run_medium.ensures
+    counted (search rules) c.run_on-then-m-le4096.ensures
 
 pub returns : goal.returns
 returns c =
-    counted (search rules) c.run_large.ensures
+    counted (search rules) c.run_on-2.ensures
