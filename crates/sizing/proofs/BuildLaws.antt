@@ -17,7 +17,7 @@ use Rattle.sizing.specs.Forms.{choices}
 use Rattle.sizing.proofs.PutLaws.{alternative_ext, added_wide, added_at, added_constant}
 use Rattle.rules.proofs.ListLaws.{all_at, all_map, all_mapped}
 use Rattle.rules.proofs.FormLaws.{all_flat_map}
-use Rattle.sizing.proofs.ListLaws.{element_at, take_stored}
+use Rattle.sizing.proofs.ListLaws.{element_at}
 
 ---- a and m times b, as the code has it
 
@@ -85,15 +85,6 @@ module _ {A : Type 0} (d : A) where
     where
       one : (x : A) → flat_map f (x ∷ []) ≡ f x
       one x = flat_one f x
-
-pub join_next : (x l o : Form) (start i : ℕ) → start + i < length x → i < length l
-    → take (start + i) x ≡ o ++ take i l → take (start + (i + 1)) (set x (start + i) (get_or l i no_alternative)) ≡ o ++ take (i + 1) l
-join_next x l o start i h g e =
-    let s : start + (i + 1) ≡ start + i + 1 = omega arith in
-    rw s
-    (take_stored x (o ++ take i l) (start + i) (get_or l i no_alternative) h e
-    ∙ append_assoc o (take i l) (get_or l i no_alternative ∷ [])
-    ∙ ap (λ (z : Form). o ++ z) (sym (rw (add-one i) (take-suc l i no_alternative g))))
 
 ---- How many, and how large
 

@@ -1,7 +1,7 @@
--- What the loops of the code use: what is left of a list, one step on.
+-- What the code's tests and loops use: a match, one split, and all splits, one after the other.
 use mathlib.Core.Path.{◌≡◌, refl, sym, ap, ◌∙◌}
 use mathlib.Core.List.{List}
-use mathlib.Core.Bool.{Bool, true, false, ◌||◌}
+use mathlib.Core.Bool.{Bool, true, false}
 use mathlib.Core.Logic.{inl, inr}
 use Prim.Native.Nat.{ℕ, zero, suc, ◌+◌, ◌*◌, ◌-◌, ◌≤◌, ◌<◌, zero-le}
 use native.Mathlib.Omega.{arith}
@@ -12,35 +12,18 @@ use lib.Seq.{drop-cons, get_or-set_same, get_or-set_other, get_or-take, length-t
 use lib.Dec.{eqb, ltb}
 use borrow.Author.Tests.{le-leb, lt-leb, eqb-true, eqb-false, ltb-true, ltb-false}
 use Rattle.rules.specs.declared.records.Alternative.{Alternative}
-use Rattle.rules.specs.Base.{all, any}
 use Rattle.rules.specs.Program.{Program}
 use Rattle.rules.specs.Records.{program_in}
-use Rattle.rules.specs.Forms.{Form, at_most, matches, added, constant_only, variable_only}
+use Rattle.rules.specs.Forms.{at_most, matches, added, constant_only, variable_only}
 use Rattle.sizing.specs.declared.splits.Split.{Split}
-use Rattle.sizing.specs.Put.{coefficient, cleared, put, Wide, AllWide, Bounded, no_alternative}
+use Rattle.sizing.specs.Put.{coefficient, cleared, put, Wide, Bounded}
 use Rattle.sizing.specs.Splits.{spanned, weight_in, split_a, carried, Tidy, Loose, Numbered, SplitAsks, Carrying, no_split}
 use Rattle.sizing.proofs.PutLaws.{cleared_below, alternative_ext, added_wide, added_at, added_constant, constant_wide, constant_at}
 use Rattle.sizing.proofs.PutLaws.{variable_wide, variable_same, variable_other, variable_constant, put_other_variable, put_at}
 use Rattle.sizing.proofs.PutLaws.{put_wide, put_constant}
-use Rattle.rules.proofs.ListLaws.{all_at}
-use Rattle.sizing.proofs.ListLaws.{element_at}
 use Rattle.sizing.proofs.SplitLaws.{spanned_wide, split_wide, spanned_low, spanned_in, spanned_high, numbered_le}
 
 ---- Matching
-
-pub at_most_next : (xs ys : List ℕ) (i : ℕ) → i < length xs → i < length ys → get_or xs i 0 ≤ get_or ys i 0
-    → at_most (drop i xs) (drop i ys) ≡ at_most (drop (i + 1) xs) (drop (i + 1) ys)
-unfolding at_most
-at_most_next xs ys i h g l = rw (add-one i, drop-cons xs i 0 h, drop-cons ys i 0 g, le-leb _ _ l)
-
-pub at_most_stop : (xs ys : List ℕ) (i : ℕ) → i < length xs → i < length ys → get_or ys i 0 < get_or xs i 0
-    → at_most (drop i xs) (drop i ys) ≡ false
-unfolding at_most
-at_most_stop xs ys i h g l = rw (drop-cons xs i 0 h, drop-cons ys i 0 g, lt-leb _ _ l)
-
-pub at_most_end : (xs ys : List ℕ) (i : ℕ) → length xs ≤ i → at_most (drop i xs) (drop i ys) ≡ true
-unfolding at_most
-at_most_end xs ys i h = rw (drop_of_length-le xs h)
 
 pub matches_low : (a b : Alternative) → a.constant ≤ b.constant → matches a b ≡ at_most a.coefficients b.coefficients
 unfolding matches
@@ -49,28 +32,6 @@ matches_low a b l = rw (le-leb _ _ l)
 pub matches_high : (a b : Alternative) → b.constant < a.constant → matches a b ≡ false
 unfolding matches
 matches_high a b l = rw (lt-leb _ _ l)
-
-module _ {A : Type 0} (p : A → Bool) (d : A) where
-  pub any_next : (xs : List A) (i : ℕ) → i < length xs → p (get_or xs i d) ≡ false → any p (drop i xs) ≡ any p (drop (i + 1) xs)
-  any_next xs i h e = rw (add-one i, drop-cons xs i d h) (ap (λ (t : Bool). t || any p (drop (suc i) xs)) e)
-
-  pub any_stop : (xs : List A) (i : ℕ) → i < length xs → p (get_or xs i d) ≡ true → any p (drop i xs) ≡ true
-  any_stop xs i h e = rw (drop-cons xs i d h) (ap (λ (t : Bool). t || any p (drop (suc i) xs)) e)
-
-  pub any_end : (xs : List A) (i : ℕ) → length xs ≤ i → any p (drop i xs) ≡ false
-  any_end xs i h = rw (drop_of_length-le xs h)
-
-  pub all_next : (xs : List A) (i : ℕ) → i < length xs → p (get_or xs i d) ≡ true → all p (drop i xs) ≡ all p (drop (i + 1) xs)
-  all_next xs i h e = rw (add-one i, drop-cons xs i d h, e)
-
-  pub all_stop : (xs : List A) (i : ℕ) → i < length xs → p (get_or xs i d) ≡ false → all p (drop i xs) ≡ false
-  all_stop xs i h e = rw (drop-cons xs i d h, e)
-
-  pub all_end : (xs : List A) (i : ℕ) → length xs ≤ i → all p (drop i xs) ≡ true
-  all_end xs i h = rw (drop_of_length-le xs h)
-
-pub wide_get : (form : Form) (i : ℕ) → AllWide form → i < length form → Wide (get_or form i no_alternative)
-wide_get form i w h = all_at i w (element_at no_alternative form i h)
 
 ---- One split
 

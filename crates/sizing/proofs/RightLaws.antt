@@ -5,9 +5,8 @@ use native.Mathlib.Omega.{arith}
 use lib.ListN.{length, get_or}
 use lib.Seq.{get_or-take, length-take-le}
 use Rattle.sizing.specs.declared.forms.Form.{Form}
-use Rattle.sizing.specs.Put.{no_alternative, Wide}
+use Rattle.sizing.specs.Put.{no_alternative}
 use Rattle.sizing.specs.Forms.{form_in, FormRight}
-use Rattle.sizing.proofs.CodeLaws.{wide_get}
 
 pub form_length : (f : Form) → FormRight f → length (form_in f) ≡ f.count
 form_length f r = let l = r.long in let m = r.few in length-take-le f.count f.alternatives (omega arith)
@@ -15,6 +14,3 @@ form_length f r = let l = r.long in let m = r.few in length-take-le f.count f.al
 pub form_at : (f : Form) → FormRight f → (i : ℕ) → i < f.count
     → get_or (form_in f) i no_alternative ≡ get_or f.alternatives i no_alternative
 form_at f r i h = get_or-take f.count f.alternatives i no_alternative h
-
-pub form_wide : (f : Form) → FormRight f → (i : ℕ) → i < f.count → Wide (get_or f.alternatives i no_alternative)
-form_wide f r i h = let l = form_length f r in rw (form_at f r i h) at (wide_get (form_in f) i r.wide (omega arith))
