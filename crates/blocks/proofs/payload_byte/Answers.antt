@@ -3,15 +3,6 @@ use native.Mathlib.Omega.{arith}
 use Rattle.rules.proofs.ContainerLaws.{verified_place, verified_byte}
 use Rattle.blocks.proofs.payload_byte.Goals as goal
 
-pub overflow_mul-result : goal.overflow_mul-result
-overflow_mul-result c = omega (arith, verified_place c.requires.0 c.args.k c.requires.1)
-
-pub overflow_add-result : goal.overflow_add-result
-overflow_add-result c = omega (arith, verified_place c.requires.0 c.args.k c.requires.1)
-
-pub overflow_add-result-2 : goal.overflow_add-result-2
-overflow_add-result-2 c = omega (arith, verified_place c.requires.0 c.args.k c.requires.1)
-
 pub bounds-file-k : goal.bounds-file-k
 bounds-file-k c = omega (arith, verified_place c.requires.0 c.args.k c.requires.1)
 

@@ -5,9 +5,6 @@ use Rattle.rules.specs.Answers.{length_of}
 use Rattle.blocks.proofs.VerifyLaws.{measured_told, verified_stopped}
 use Rattle.blocks.proofs.verify.Goals as goal
 
-pub payload_length-requires : goal.payload_length-requires
-payload_length-requires c = sym c.in_ok-verify_blocks.ensures
-
 pub returns-in_err-verify_blocks : goal.returns-in_err-verify_blocks
 returns-in_err-verify_blocks c =
     let p = err_from_is_err_and c.from_residual.result c.from_residual.ensures.1 in
