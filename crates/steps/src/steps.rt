@@ -141,6 +141,7 @@ fn one(
     let w = f.word;
     let operation = w % 256;
     let a = (w / 256 % 256) as usize;
+    // By the byte and no Instruction, which would be made and taken apart again at every step.
     match operation {
         1 => load(stack, m, r, f.next, a),
         2 => build(file, cells, stack, m, r, f.next, a),
