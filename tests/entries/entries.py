@@ -1,9 +1,12 @@
 """Holds the functions that have a `requires` to what docs/PROMISES.md says of them."""
 import collections, glob, os, re, sys
 
-Function = collections.namedtuple('Function', 'crate file name public exported asks comment')
-FN = re.compile(r'^(pub )?(extern "C" )?fn (\w+)(?:<[^>]*>)?\(', re.M)
-ATTRIBUTES = re.compile(r'(?:^#\[[^\n]*\]\n|^#\[[^\n]*\n(?:[ \t][^\n]*\n)+\S*\]\n)+\Z', re.M)
+Function = collections.namedtuple('Function', 'crate file name public exported asks comment type')
+# A function, a method or a function of a trait, with what stands in front of it.
+FN = re.compile(r'^( *)(pub )?(extern "C" )?fn (\w+)(?:<(?:->|[^<>]|<[^<>]*>)*>)?\(', re.M)
+# The block that a method stands in: of a type, or a public or other trait.
+BLOCK = re.compile(r'^(?:impl\b(?:<[^>{]*>)? (?:\w+ for )?(\w+)|(pub )?trait (\w+))[^\n]*\{$', re.M)
+ATTRIBUTES = re.compile(r'(?:^ *#\[[^\n]*\]\n|^ *#\[[^\n]*\n(?:[ \t][^\n]*\n)+\S*\]\n)+\Z', re.M)
 
 
 def read(path):
@@ -12,25 +15,35 @@ def read(path):
 
 def comment_above(text):
     """The comment that ends a text, but for the attributes behind it."""
-    lines, comment = ATTRIBUTES.sub('', text).rstrip('\n').split('\n'), []
-    while lines and lines[-1].startswith('//'):
-        comment.insert(0, lines.pop())
+    lines, comment = ATTRIBUTES.sub('', text).rstrip('\n ').split('\n'), []
+    while lines and lines[-1].lstrip().startswith('//'):
+        comment.insert(0, lines.pop().lstrip())
     return comment
+
+
+def block_of(text, m):
+    """The type or trait whose block a method stands in, and whether a trait's is public to whoever sees the trait."""
+    if not m[1]:
+        return None, False
+    block = [b for b in BLOCK.finditer(text[:m.start()])][-1]
+    return block[1] or block[3], bool(block[2])
 
 
 def functions(path, text):
     """The functions of a file, with their clauses counted, each of which may have a name, and the comment above them."""
     starts = [m.start() for m in FN.finditer(text)] + [len(text)]
     for m, end in zip(FN.finditer(text), starts[1:]):
-        yield Function(path.split('/')[1], os.path.basename(path)[:-3], m[3], bool(m[1]), bool(m[2]),
-                       len(re.findall(r'^\s*requires (?:\w+ )?\{', text[m.start():end], re.M)), comment_above(text[:m.start()]))
+        block, of_trait = block_of(text, m)
+        yield Function(path.split('/')[1], os.path.basename(path)[:-3], m[4], bool(m[2]) or of_trait, bool(m[3]),
+                       len(re.findall(r'^\s*requires (?:\w+ )?\{', text[m.start():end], re.M)), comment_above(text[:m.start()]), block)
 
 
 def reachable(f, texts):
-    """Whether other crates can name it: it stands in lib.rt, in a public module, or lib.rt hands it on."""
+    """Whether other crates can name it, or the type or trait that it belongs to: it stands in lib.rt, in a public module, or lib.rt hands it on."""
     lib = texts.get('crates/%s/src/lib.rt' % f.crate, '')
+    name = f.type or f.name
     return f.public and (f.file == 'lib' or re.search(r'^pub mod %s\b' % f.file, lib, re.M)
-                         or re.search(r'^pub use %s::(\{[^}]*\b)?%s\b[^;]*;' % (f.file, f.name), lib, re.M)) is not None
+                         or re.search(r'^pub use %s::(\{[^}]*\b)?%s\b[^;]*;' % (f.file, name), lib, re.M)) is not None
 
 
 def tables(promises):
@@ -44,7 +57,7 @@ def callers(texts):
     """For each name the crates that call a function so named; a function that other crates cannot name is called in its own."""
     called = collections.defaultdict(set)
     for path, text in texts.items():
-        for name in re.findall(r'(?<!fn )\b(\w+)\(', re.sub('//.*', '', text)):
+        for name in re.findall(r'(?<!fn )\b(\w+)(?:::<[^<>]*>)?\(', re.sub('//.*', '', text)):
             called[name].add(path.split('/')[1])
     return called
 

@@ -12,7 +12,7 @@ THEOREMS = {'cases_hold', 'tally_promise', 'check_exact', 'round_trip', 'exact',
             'empty_text', 'lines_exact', 'constants_fact', 'every_byte', 'every_build', 'reads_unpacked', 'found_unpacked'}
 
 # What is called of a trait that a file imports and need not name.
-METHODS = {'Read': ('read', 'read_exact', 'read_to_end'), 'Write': ('write', 'write_all', 'flush')}
+METHODS = {'Read': ('read', 'read_exact', 'read_to_end'), 'Write': ('write', 'write_all', 'flush', 'writeln')}
 
 TOKEN = re.compile(r'[^\s(){}.;,@"«»]+')
 SIGNATURE = re.compile(r'((?:(?:unfoldable|abbrev|pub) )*)(?:data |record )?([^\s(){}.;,]+)(?: [({].*)? :(?: |$)', re.M)
@@ -106,12 +106,14 @@ def unused_definitions(texts):
 def functions(text):
     """Name, parameters and body of each function of a Rattle file. Brackets in a string or a character close nothing."""
     text = re.sub(r'"(?:[^"\\]|\\.)*"|\'(?:[^\'\\]|\\.)\'', lambda m: re.sub(r'[][(){}]', ' ', m[0]), text)
-    for m in re.finditer(r'\bfn (\w+)(?:<[^>]*>)?\(', text):
+    for m in re.finditer(r'\bfn (\w+)(?:<(?:->|[^<>]|<[^<>]*>)*>)?\(', text):
         end = closing(text, m.end() - 1)
         start = text.index('{', end)
         while re.search(r'(requires|ensures)(?: \w+)?\s*$', text[end:start]):
             end = closing(text, start)
             start = text.index('{', end)
+        if re.match(r'\s*;', text[end:]):
+            continue  # a trait's function without a body
         yield m[1], text[m.end():closing(text, m.end() - 1)], text[start:closing(text, start)]
 
 

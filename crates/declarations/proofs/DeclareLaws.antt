@@ -18,7 +18,7 @@ use Rattle.rules.specs.Established.{Headed}
 use Rattle.program.proofs.LayoutLaws.{types_count}
 
 -- the result type is below, and of the argument types it is known
-pub below_all : (types : ℕ) (d : Declaration) {v : Bool} → d.result < types → all_below types (arguments_of d) ≡ v
+below_all : (types : ℕ) (d : Declaration) {v : Bool} → d.result < types → all_below types (arguments_of d) ≡ v
     → v ≡ all_below types (d.result ∷ arguments_of d)
 below_all types d h e = sym (rw (lt-ltb d.result types h) e)
 

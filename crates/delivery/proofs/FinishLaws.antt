@@ -127,7 +127,8 @@ module _ {file : List ℕ} {m : Limits} {budget : ℕ} {says : Outcome} {cells s
   result_bytes : bytes_of file cells (top_reference stack r)
       ≡ written (value_of (heap_in (arity (program_in file)) cells r.used) (top_reference stack r))
   result_bytes =
-      bytes_in file cells r.used (top_reference stack r) result_refers (earlier e) ∙ ap (λ (h : Heap). written (value_of h (top_reference stack r))) (sym (heap_is e))
+      bytes_in file cells r.used (top_reference stack r) result_refers (earlier e)
+      ∙ ap (λ (h : Heap). written (value_of h (top_reference stack r))) (sym (heap_is e))
 
   pub result_short : length (bytes_of file cells (top_reference stack r)) < 4294967296
   result_short = rw result_bytes e.ends.answers.1

@@ -1,5 +1,5 @@
 // The instruction at a place of the file: its four bytes as one number, and the place of the next.
-ghost use Rattle.std.specs.Prelude.{◌≡◌, ◌+◌, ◌*◌, ◌≤◌, ◌<◌, length};
+ghost use Rattle.std.specs.Prelude.{◌+◌, ◌≤◌, length};
 ghost use Rattle.rules.specs.Container.{payload};
 ghost use Rattle.rules.specs.Established.{Verified};
 ghost use Rattle.fetch.specs.Places.{offset_at, Inside, Behind};

@@ -13,7 +13,7 @@ pub trait Record {
     // The record that begins at an offset of these bytes.
     ghost record_at: { List ℕ → ℕ → Self };
 
-    // The record from its place in the file on, of which its block has so many bytes left.
+    // For the crates above, too: the record from its place in the file on, of which its block has so many bytes left.
     fn read(file: &[u8], place: usize, left: usize) -> Self
         requires { Reaches file.now place left SIZE }
         ensures { result ≡ record_at (onward file.now place left) 0 };

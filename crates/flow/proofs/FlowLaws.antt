@@ -49,7 +49,7 @@ waits_more past one later new = several {n = 2} (omega arith)
 waits_more past (several {n} l) later new = several {n = n + 1} (omega arith)
 
 -- one store for each arrow
-abbrev pub stored : List (Arrow Bool) → List Arrivals → List Arrivals
+abbrev stored : List (Arrow Bool) → List Arrivals → List Arrivals
 stored [] w = w
 stored (a ∷ more) w = stored more (set w a.0 (join_of (get_or w a.0 Nothing) a.1))
 

@@ -43,7 +43,8 @@ use Rattle.start.proofs.LoadLaws.{bytes_right, cells_are, stack_is, frames_are, 
 use Rattle.delivery.specs.Delivers.{Ended, Delivers}
 use Rattle.interpreter.proofs.SoundLaws.{has_begun, start_sound}
 
-module _ {file : List ℕ} {index : Index} {m : Limits} {entry n : ℕ} {arguments : List ℕ} {budget : ℕ} {cells stack : List ℕ} {frames : List Frame}
+module _ {file : List ℕ} {index : Index} {m : Limits} {entry n : ℕ} {arguments : List ℕ} {budget : ℕ}
+    {cells stack : List ℕ} {frames : List Frame}
     {out : List ℕ} (b : Beginning file index m entry n arguments budget cells stack frames out) where
   abbrev s : Program
   s = program_in file

@@ -1,5 +1,6 @@
 -- The text looked through: the code at a place, the first line without a code, and what is known where every line has one.
-use Rattle.std.proofs.Common.{◌≡◌, ◌+◌, ◌*◌, ◌/◌, ◌≤◌, ◌<◌, ◌∙◌, ℕ, zero, suc, Bool, true, false, not, List, [], ◌∷◌, length, take, drop, get_or}
+use Rattle.std.proofs.Common.{◌≡◌, ◌+◌, ◌*◌, ◌/◌, ◌≤◌, ◌<◌, ◌∙◌, ℕ, zero, suc, Bool, true, false, not, List, [], ◌∷◌, length, take, drop}
+use Rattle.std.proofs.Common.{get_or}
 use Rattle.std.proofs.Common.{arith, refl, sym, ap}
 use Rattle.std.specs.Prelude.{Option, None, Some, IsSome, is_some}
 use lib.ListN.{length-take, length-drop, drop_of_length-le}

@@ -61,7 +61,8 @@ module _ (cons nil : ℕ) where
 
 -- of the lines i are written, whatever their codes are
 abbrev pub Writing : List (List ℕ) → List ℕ → ℕ → ℕ → List ℕ → ℕ → List ℕ → Type 0
-Writing es text cons nil out₀ i out = (cs : List ℕ) → codes es 1 (text_lines text) ≡ found cs → Pasted out₀ 0 (list_of cons nil cs) (2 * i) out
+Writing es text cons nil out₀ i out = (cs : List ℕ) → codes es 1 (text_lines text) ≡ found cs → Pasted out₀ 0 (list_of cons nil cs)
+    (2 * i) out
 
 module _ (es : List (List ℕ)) (text : List ℕ) (cons nil : ℕ) (out₀ : List ℕ) where
   pub writing_start : 2 * (length text / 4) + 1 ≤ length out₀ → Writing es text cons nil out₀ 0 out₀

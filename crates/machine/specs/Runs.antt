@@ -18,7 +18,8 @@ use Rattle.steps.specs.declared.state.Registers.{Registers}
 use Rattle.machine.specs.declared.run.End.{End}
 use Rattle.machine.specs.declared.run.End.TheVariants as ends
 
--- what a run that ended so answers: the result on top of the stack, the program's own stop, or the number of what was spent at an instruction
+-- what a run that ended so answers: the result on top of the stack, the program's own stop,
+-- or the number of what was spent at an instruction
 abbrev pub Answers : List ℕ → ℕ → Outcome → List ℕ → List ℕ → Registers → ℕ → End → Type 0
 Answers file budget said cells stack t i ends.Result =
     (t.base < t.top)

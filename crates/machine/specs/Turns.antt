@@ -68,7 +68,8 @@ pub data Leaves (stack : List ℕ) (r : Registers) (w : Frame) (n code : ℕ) : 
 ---- What a frame that rests gives way to
 
 -- a frame that rests, above the frames of the table
-pub record Rested (file : List ℕ) (index : Index) (m : Limits) (cells stack : List ℕ) (frames : List Frame) (r : Registers) (why : Rest) : Type 0
+pub record Rested (file : List ℕ) (index : Index) (m : Limits) (cells stack : List ℕ) (frames : List Frame) (r : Registers)
+    (why : Rest) : Type 0
   where
     pub indexed : Indexed file index
     pub limits : LimitsOf m cells stack frames

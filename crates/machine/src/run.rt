@@ -1,5 +1,5 @@
 // The run: the top frame until it rests, then a call, a return or an end, and so on.
-ghost use Rattle.std.specs.Prelude.{◌≡◌, List, ℕ, ◌+◌, ◌≤◌, length};
+ghost use Rattle.std.specs.Prelude.{List, ℕ, ◌+◌, ◌≤◌, length};
 ghost use Rattle.rules.specs.Container.{payload};
 ghost use Rattle.rules.specs.Established.{Verified};
 ghost use Rattle.fetch.specs.Places.{offset_at, Inside};

@@ -181,10 +181,12 @@ module _ (s : Program) (n : ℕ) (f : Function) (i : ℕ) (stack : List ℕ) {re
   result_is : below s n f i (f.result ∷ []) stack ≡ or_refuse (below_of (res ∷ []) stack) (refusal 8 n i)
   result_is = ap (λ (t : ℕ). below s n f i (t ∷ []) stack) is ∙ below_is s n f i (res ∷ []) stack
 
-  pub return_wrong : {r : Option TypedStep} → None ≡ below_of (res ∷ []) stack → r ≡ None → TypeSays n i stack r (type_rule s n f i Return stack)
+  pub return_wrong : {r : Option TypedStep} → None ≡ below_of (res ∷ []) stack → r ≡ None → TypeSays n i stack r
+      (type_rule s n f i Return stack)
   unfolding type_rule
   return_wrong q e = record { says = rw (e, result_is, ← q) refl }
 
-  pub return_ends : {rest : List ℕ} → Some rest ≡ below_of (res ∷ []) stack → TypeSays n i stack (Some Ends) (type_rule s n f i Return stack)
+  pub return_ends : {rest : List ℕ} → Some rest ≡ below_of (res ∷ []) stack → TypeSays n i stack (Some Ends)
+      (type_rule s n f i Return stack)
   unfolding type_rule
   return_ends q = record { says = rw (result_is, ← q) refl }

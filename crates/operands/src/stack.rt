@@ -13,7 +13,7 @@ pub struct Stack {
 }
 
 impl Stack {
-    ghost use Rattle.std.specs.Prelude.{if◌then◌else◌, [], ◌∷◌, ◌++◌, ◌+◌, Option.None, Option.Some, leb};
+    ghost use Rattle.std.specs.Prelude.{[], ◌++◌, ◌+◌};
     ghost use Rattle.std.specs.Option.{option_map};
     ghost use Rattle.rules.specs.Records.{arguments_of};
     ghost use Rattle.operands.specs.Operands.{stack_of, grown, below_of};

@@ -10,7 +10,8 @@ use Rattle.rules.specs.declared.records.Header.{Header}
 use Rattle.rules.specs.declared.records.HeadRecord.{HeadRecord}
 use Rattle.rules.specs.Base.{Refusal, refusal, refused, ◌>>=◌, Check, passed, require, for_each, within, byte_at, word_at}
 use Rattle.rules.specs.Container.{payload}
-use Rattle.rules.specs.Records.{header_at, constructor_at, head_at, alternative_at, header_right, constructor_right, head_right, alternative_right}
+use Rattle.rules.specs.Records.{header_at, constructor_at, head_at, alternative_at, header_right, constructor_right, head_right}
+use Rattle.rules.specs.Records.{alternative_right}
 use Rattle.rules.specs.Records.{constructor_offset}
 use Rattle.rules.specs.Records.{alternative_offset, code_offset, behind, head_offset, record_right, constructor_check}
 use Rattle.rules.specs.Records.{alternative_check, instruction_check, function_right, constructors_right, functions_right, nothing_left}
@@ -60,7 +61,8 @@ module _ (p : List ℕ) (at : ℕ) where
       alternatives_as e =
           sym (e ∙ ap (λ (m : ℕ). for_each (nth_right 6 alternative_at (alternative_right h.declaration.arity) p first) 0 m) ec
           ∙ ap (λ (f : ℕ). for_each (nth_right 6 alternative_at (alternative_right h.declaration.arity) p f) 0 h.alternatives) ef
-          ∙ ap (λ (x : HeadRecord). for_each (nth_right 6 alternative_at (alternative_right x.declaration.arity) p (at + 10)) 0 x.alternatives) is)
+          ∙ ap (λ (x : HeadRecord). for_each (nth_right 6 alternative_at (alternative_right x.declaration.arity) p
+          (at + 10)) 0 x.alternatives) is)
 
       pub placed_alternatives : {q : Refusal}
           → refused q ≡ for_each (nth_right 6 alternative_at (alternative_right h.declaration.arity) p first) 0 count
@@ -92,7 +94,7 @@ pub record Scanned (p : List ℕ) (m g at : ℕ) (heads : List ℕ) : Type 0 whe
   pub long : length heads ≡ 32
   pub placed : (j : ℕ) → j < g → get_or heads j 0 ≡ head_offset p j
 
-pub scan_first : {p : List ℕ} {m first : ℕ} {heads : List ℕ} → first ≡ head_offset p 0 → first ≤ 400000 → length heads ≡ 32
+scan_first : {p : List ℕ} {m first : ℕ} {heads : List ℕ} → first ≡ head_offset p 0 → first ≤ 400000 → length heads ≡ 32
     → Scanned p m 0 first heads
 scan_first e l long = record { passing = pass_first; here = e; small = l; long = long; placed = λ j b. absurd (not-suc-le-zero b) }
 

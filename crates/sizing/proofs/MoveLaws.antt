@@ -194,7 +194,8 @@ module _ {file heads : List ℕ} {g i : ℕ} {st : Saved} {c b : ℕ} (a : MoveA
       said : SidesSay (program_in file) g (function_in file g) i b c d.arity st r
       said = says (program_in file) g (function_in file g) i b reached.kind a.fit.right reached.known parts_is
 
-      lands_next : (o : Option Saved) → IfSome o (λ x. SavedRight (program_in file) (function_in file g) x × (x.height ≡ st.height - 1 + d.arity))
+      lands_next : (o : Option Saved)
+          → IfSome o (λ x. SavedRight (program_in file) (function_in file g) x × (x.height ≡ st.height - 1 + d.arity))
           → IfSome o (λ x. (i + 1 ≤ 256) × Fit file g (i + 1) x)
       lands_next None h = tt
       lands_next (Some x) h = (move_short, record { right = h.0; at = rw (h.1, parts_is, add-one i) reached.next })

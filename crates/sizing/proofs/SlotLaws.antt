@@ -30,7 +30,8 @@ use Rattle.sizing.specs.Routines.{RoutineIs}
 use Rattle.sizing.specs.Moves.{StartIs, Fit, FunctionAsks, StepAsks, standing, sent, leaving, move_left, StepSays}
 use Rattle.sizing.proofs.WalkLaws.{first_put, outcome_end, outcome_skipped, walk_judged}
 use Rattle.sizing.proofs.ReachLaws.{at_start}
-use Rattle.sizing.proofs.FileLaws.{flow_right_lem, few_parameters, arity_is, code_length, code_at, here, parameter_counts, own_bound, bound_is}
+use Rattle.sizing.proofs.FileLaws.{flow_right_lem, few_parameters, arity_is, code_length, code_at, here, parameter_counts, own_bound}
+use Rattle.sizing.proofs.FileLaws.{bound_is}
 use Rattle.sizing.proofs.ConvertLaws.{rows_fit}
 use Rattle.sizing.proofs.StartLaws.{path_start}
 use Rattle.rules.proofs.RuleLaws.{shape_among}

@@ -49,7 +49,8 @@ under_get n [] k h p = absurd (omega arith)
 under_get n (x ∷ xs) zero h p = p.0
 under_get n (x ∷ xs) (suc k) h p = under_get n xs k (omega arith) p.1
 
-pub splitting_last : {v : ℕ} {ps : List Split} {p : Split} (n count : ℕ) → Splitting v ps p → Numbered n ps count → p.first + p.parts ≤ count
+pub splitting_last : {v : ℕ} {ps : List Split} {p : Split} (n count : ℕ) → Splitting v ps p → Numbered n ps count
+    → p.first + p.parts ≤ count
 splitting_last n count (now_split {p} {ps} e) h = let z = h.1 in let l = numbered_le ps (n + p.parts) count h.2 in omega arith
 splitting_last n count (later_split {q} {p} {ps} d g) h = splitting_last (n + q.parts) count g h.2
 

@@ -42,7 +42,8 @@ use Rattle.sizing.proofs.ReachLaws.{at_low, at_load, at_build, at_call, at_branc
 use Rattle.sizing.proofs.FileLaws.{constructor_read, light, weights, function_named, arity_is, few_parameters, bound_right, bound_is}
 use Rattle.sizing.proofs.FileLaws.{own_bound}
 use Rattle.sizing.proofs.ConvertLaws.{entry_asks, own_asks, converted}
-use Rattle.sizing.proofs.LineLaws.{line_rule, line_entry, top, top_length, top_at, load_line, entered, entered_shape, enter_large, enter_goes, enter_line}
+use Rattle.sizing.proofs.LineLaws.{line_rule, line_entry, top, top_length, top_at, load_line, entered, entered_shape, enter_large}
+use Rattle.sizing.proofs.LineLaws.{enter_goes, enter_line}
 use Rattle.sizing.proofs.LineLaws.{enter_refused, build_form, call_form}
 
 ---- A build as a bound of one row
@@ -270,7 +271,8 @@ module _ {file heads : List ℕ} {g : ℕ} {r : Routine} {start : ℕ} {st : Sav
         let q = function_named a.walking c y.0 y.1 in
         let n_is : m.arity ≡ arity y.0 = ap (λ (x : Maker). x.arity) (sym (some_inj k))
         ∙ sym (ap (λ (h : Function). arity h) q.1 ∙ arity_is a.walking c q.0) in
-        let d_is : m.bound ≡ declared_bound (payload file) (head_offset (payload file) c) = ap (λ (x : Maker). x.bound) (sym (some_inj k)) in
+        let d_is : m.bound ≡ declared_bound (payload file) (head_offset (payload file) c) = ap (λ (x : Maker). x.bound) (sym
+        (some_inj k)) in
         let b_is : y.0.bound ≡ bound_in (payload file) (arity y.0) m.bound =
         ap (λ (h : Function). h.bound) q.1 ∙ sym (bound_is a.walking c q.0 m.bound d_is)
         ∙ ap (λ (h : Function). bound_in (payload file) (arity h) m.bound) (sym q.1) in

@@ -1,5 +1,5 @@
 // Size forms: how one is made of a size bound and the forms of its arguments.
-ghost use Rattle.std.specs.Prelude.{◌≡◌, [], ◌∷◌, ◌++◌, ◌+◌, ◌≤◌, ◌<◌, length, take};
+ghost use Rattle.std.specs.Prelude.{◌≡◌, ◌++◌, ◌+◌, ◌≤◌, ◌<◌, length, take};
 ghost use Rattle.rules.specs.Container.{payload};
 ghost use Rattle.rules.specs.Established.{Verified};
 ghost use Rattle.rules.specs.Forms.{constant_only, variable_only, added, substituted, into_bound};
@@ -76,7 +76,8 @@ pub fn plus(m: u16, b: Alternative, a: Alternative) -> Alternative
 
 // Every choice: an alternative of rest with m times one of form. None where there are more than 16.
 pub fn chosen(m: u16, form: &Form, rest: &Form) -> Option<Form>
-    requires { (m ≤ 15) × Entry form.now × FormRight rest.now × (0 < rest.now.count) × AllBounded 32768 16777216 (form_in rest.now) × (0 < m) }
+    requires { (m ≤ 15) × Entry form.now × FormRight rest.now × (0 < rest.now.count) × AllBounded 32768 16777216 (form_in rest.now) ×
+        (0 < m) }
     ensures { FormMade result (choices m (form_in form.now) (form_in rest.now)) }
 {
     let k = rest.count;

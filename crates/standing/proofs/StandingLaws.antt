@@ -19,14 +19,6 @@ use Rattle.fields.specs.Onward.{Placed}
 use Rattle.fields.proofs.SpotLaws.{Spot}
 use Rattle.standing.specs.Found.{last_block, extent, standing, whole, found_at, Inside}
 
--- as the code tests it, with no sum that could wrap
-pub leb_moved : (at size n : ℕ) → size ≤ n → leb at (n - size) ≡ leb (at + size) n
-leb_moved at size n h = go (leb at (n - size)) refl
-  where
-    go : (b : Bool) → leb at (n - size) ≡ b → b ≡ leb (at + size) n
-    go true e = sym (le-leb (at + size) n (omega (arith, leb-true at (n - size) e)))
-    go false e = sym (lt-leb (at + size) n (omega (arith, leb-false at (n - size) e)))
-
 module _ (file : List ℕ) where
   pub extent_none : length file < 512 → 0 ≡ extent file
   unfolding extent

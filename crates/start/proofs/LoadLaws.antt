@@ -41,7 +41,8 @@ arguments_loading {file} {bytes} f parsed right few = record {
   few = omega (arith, few);
 }
 
-pub callable_loading : {file : List ℕ} {index : Index} {entry : ℕ} {bytes : List ℕ} → Callable file index entry bytes → arguments.Loading file bytes
+pub callable_loading : {file : List ℕ} {index : Index} {entry : ℕ} {bytes : List ℕ} → Callable file index entry bytes
+    → arguments.Loading file bytes
 callable_loading k = arguments_loading k.f k.indexed.parsed k.right (few_inputs k)
 
 module _ {file bytes cells stack : List ℕ} {n : ℕ} (l : Loading file bytes cells stack n) where
@@ -77,7 +78,8 @@ module _ {file bytes cells stack : List ℕ} {n : ℕ} (l : Loading file bytes c
 
 ---- What loading asks
 
-module _ {file : List ℕ} {index : Index} {m : Limits} {entry n : ℕ} {arguments : List ℕ} {budget : ℕ} {cells stack : List ℕ} {frames : List Frame}
+module _ {file : List ℕ} {index : Index} {m : Limits} {entry n : ℕ} {arguments : List ℕ} {budget : ℕ}
+    {cells stack : List ℕ} {frames : List Frame}
     {out : List ℕ} (b : Beginning file index m entry n arguments budget cells stack frames out) where
   pub cells_are : m.cells ≡ min 65471 (length cells / 5)
   cells_are = ap (λ (t : Tables). t.cells) b.limited

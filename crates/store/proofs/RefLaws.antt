@@ -95,7 +95,7 @@ put_on to l out out' p a h =
     refs_append out' a (to - a) (length l) ∙ rw (e, p.put, low)
 
 -- the references from a place on are a part of the list
-pub refs_part : (l : List ℕ) (a n : ℕ) → a + n ≤ length l → refs l a n ≡ take n (drop a l)
+refs_part : (l : List ℕ) (a n : ℕ) → a + n ≤ length l → refs l a n ≡ take n (drop a l)
 unfolding refs
 refs_part l a zero h = refl
 refs_part l a (suc n) h = rw (drop-cons l a 0 (omega arith), refs_part l (suc a) n (omega arith))

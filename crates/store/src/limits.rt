@@ -1,6 +1,5 @@
 // What is usable of the lent tables, and made zero after the run.
-ghost use Rattle.std.specs.Prelude.{◌≡◌, true, ◌≤◌, ◌/◌, min, length};
-ghost use Rattle.rules.specs.Memory.{table_after};
+ghost use Rattle.std.specs.Prelude.{◌≡◌, ◌≤◌, ◌/◌, min, length};
 ghost use Rattle.store.specs.Cells.{CellRoom};
 ghost use Rattle.store.specs.Limits.{Wiped};
 

@@ -1,6 +1,7 @@
 -- What is left of the check reads the bytes that follow, for the types still to be read.
 use native.Mathlib.Omega.{arith}
-use Rattle.arguments.proofs.ReadingLaws.{head_arity, parameters_put, reading_next, reading_stop, reading_short, reading_whole, arguments_long}
+use Rattle.arguments.proofs.ReadingLaws.{head_arity, parameters_put, reading_next, reading_stop, reading_short, reading_whole}
+use Rattle.arguments.proofs.ReadingLaws.{arguments_long}
 use Rattle.arguments.proofs.ReadingLaws.{arguments_read}
 use borrow.Author.Rules.{rules}
 use Rattle.arguments.proofs.checking.check_arguments.Goals as goal
@@ -12,7 +13,8 @@ pub loop-i-init : goal.loop-i-init
 loop-i-init c =
     let p = c.arguments_of-parameters.ensures in
     let few = (head_arity _ c.args.head c.requires.head_there _ c.declaration-d.ensures).1 in
-    parameters_put _ c.args.head c.requires.head_there _ c.declaration-d.ensures _ _ _ (search rules) p.types c.copy_from_slice.ensures.after
+    parameters_put _ c.args.head c.requires.head_there _ c.declaration-d.ensures _ _ _
+    (search rules) p.types c.copy_from_slice.ensures.after
     _ _ (omega (arith, p.count, few)) (omega (arith, p.count, few))
 
 pub returns-in_default : goal.returns-in_default

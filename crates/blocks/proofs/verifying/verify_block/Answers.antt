@@ -24,4 +24,5 @@ returns-then-not-block_right c = sym (block_tested _ _ _ (summed (goal.at.return
     (sym c.block_right.ensures ∙ c.if-not-block_right.true))
 
 pub returns : goal.returns
-returns c = sym (block_tested _ _ _ (summed (goal.at.returns c).Else-long_at-checksum) (sym c.block_right.ensures ∙ c.if-not-block_right.false))
+returns c = sym (block_tested _ _ _ (summed (goal.at.returns c).Else-long_at-checksum)
+    (sym c.block_right.ensures ∙ c.if-not-block_right.false))

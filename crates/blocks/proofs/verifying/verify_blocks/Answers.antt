@@ -9,7 +9,8 @@ use Rattle.rules.specs.Base.{◌>>=◌}
 use Rattle.rules.specs.Container.{verify, verify_blocks, length_right}
 use Rattle.rules.proofs.ContainerLaws.{verify_refused, verify_begun}
 use Rattle.blocks.proofs.BlockLaws.{blocks_found}
-use Rattle.blocks.proofs.verifying.verify_blocks.Goals.{then-len-eq0-via-then-len-eq0, then-len-eq0-via-else-len-eq0+then-len-gt32768, then-len-eq0-via-else-len-eq0+else-len-gt32768+then-len-ne0, After-verify_block}
+use Rattle.blocks.proofs.verifying.verify_blocks.Goals.{then-len-eq0-via-then-len-eq0, then-len-eq0-via-else-len-eq0+then-len-gt32768}
+use Rattle.blocks.proofs.verifying.verify_blocks.Goals.{then-len-eq0-via-else-len-eq0+else-len-gt32768+then-len-ne0, After-verify_block}
 use Rattle.blocks.proofs.verifying.verify_blocks.Goals as goal
 
 pub returns-then-len-eq0 : goal.returns-then-len-eq0

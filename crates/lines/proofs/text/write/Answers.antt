@@ -10,7 +10,8 @@ pub loop-i-init : goal.loop-i-init
 loop-i-init c = writing_start (entries c.args.index.now.table.now) c.args.text.now c.args.cons c.args.nil c.args.out.now c.requires.1
 
 pub known_code-requires : goal.known_code-requires
-known_code-requires c = rw take_rest (line_coded (entries c.args.index.now.table.now) c.args.text.now c.requires.0 c.loop-i.i c.loop-i-test.true)
+known_code-requires c = rw take_rest (line_coded
+    (entries c.args.index.now.table.now) c.args.text.now c.requires.0 c.loop-i.i c.loop-i-test.true)
 
 pub loop-i-preserved : goal.loop-i-preserved
 loop-i-preserved c =

@@ -10,7 +10,8 @@ loop-k-init g c = λ test says. pass_first
 pub returns-in_err-read_right : goal.returns-in_err-read_right
 returns-in_err-read_right g c = λ test says.
     let p = err_from_is_err_and c.from_residual.result c.from_residual.ensures.1 in
-    rw (p.1, p.2) (pass_stop (c.loop-k.invariant test says) (omega arith) (sym (rw c.SIZE.ensures at (c.in_err-read_right.ensures.says test says))))
+    rw (p.1, p.2) (pass_stop (c.loop-k.invariant test says) (omega arith) (sym (rw c.SIZE.ensures at
+    (c.in_err-read_right.ensures.says test says))))
 
 pub loop-k-preserved : goal.loop-k-preserved
 loop-k-preserved g c = λ test says.

@@ -17,7 +17,8 @@ pub returns-in_err-check_each-clause-says : goal.returns-in_err-check_each-claus
 returns-in_err-check_each-clause-says c =
     let r = c.from_residual-in_err-check_each in
     let p = err_from_is_err_and r.result r.ensures.1 in
-    rw (p.1, p.2) (placed_alternatives (payload c.args.file.now) c.args.at (c.in_ok-h.ensures.says head_right (λ r t k. search (rules, tests))) c.in_ok-h.ensures.read.0
+    rw (p.1, p.2) (placed_alternatives (payload c.args.file.now) c.args.at (c.in_ok-h.ensures.says head_right (λ r t k. search
+    (rules, tests))) c.in_ok-h.ensures.read.0
     c.from.ensures (omega arith)
     (c.in_err-check_each.ensures (alternative_right c.in_ok-h.h.declaration.arity) (λ r t k. search (rules, tests))))
 
@@ -25,7 +26,8 @@ pub returns-in_err-check_each-2-clause-says : goal.returns-in_err-check_each-2-c
 returns-in_err-check_each-2-clause-says c =
     let r = c.from_residual-in_err-check_each-2 in
     let p = err_from_is_err_and r.result r.ensures.1 in
-    rw (p.1, p.2) (placed_code (payload c.args.file.now) c.args.at (c.in_ok-h.ensures.says head_right (λ r t k. search (rules, tests))) c.in_ok-h.ensures.read.0
+    rw (p.1, p.2) (placed_code (payload c.args.file.now) c.args.at (c.in_ok-h.ensures.says head_right (λ r t k. search
+    (rules, tests))) c.in_ok-h.ensures.read.0
     c.from.ensures (omega arith)
     (c.in_ok-check_each.ensures (alternative_right c.in_ok-h.h.declaration.arity) (λ r t k. search (rules, tests)))
     c.from-2.ensures c.alternative_offset-base.ensures
@@ -33,7 +35,8 @@ returns-in_err-check_each-2-clause-says c =
 
 pub returns-clause-says : goal.returns-clause-says
 returns-clause-says c =
-    placed_code (payload c.args.file.now) c.args.at (c.in_ok-h.ensures.says head_right (λ r t k. search (rules, tests))) c.in_ok-h.ensures.read.0
+    placed_code (payload c.args.file.now) c.args.at (c.in_ok-h.ensures.says head_right (λ r t k. search
+    (rules, tests))) c.in_ok-h.ensures.read.0
     c.from.ensures (omega arith)
     (c.in_ok-check_each.ensures (alternative_right c.in_ok-h.h.declaration.arity) (λ r t k. search (rules, tests)))
     c.from-2.ensures c.alternative_offset-base.ensures

@@ -15,7 +15,8 @@ pub returns-in_err-check_each-clause-says : goal.returns-in_err-check_each-claus
 returns-in_err-check_each-clause-says c =
     let r = c.from_residual-in_err-check_each in
     let p = err_from_is_err_and r.result r.ensures.1 in
-    rw (p.1, p.2) (open_constructors c.requires (c.in_ok-header.ensures.says header_right (λ r t k. search (rules, tests))) c.in_ok-header.ensures.read.0
+    rw (p.1, p.2) (open_constructors c.requires (c.in_ok-header.ensures.says header_right (λ r t k. search
+    (rules, tests))) c.in_ok-header.ensures.read.0
     c.from.ensures c.constructor_offset-first.ensures
     (c.in_err-check_each.ensures constructor_right (λ r t k. search (rules, tests))))
 
@@ -26,21 +27,24 @@ loop-g-init c =
 
 pub bounds-heads-g : goal.bounds-heads-g
 bounds-heads-g c =
-    let few = open_few c.requires (c.in_ok-header.ensures.says header_right (λ r t k. search (rules, tests))) c.in_ok-header.ensures.read.0 in
+    let few = open_few c.requires (c.in_ok-header.ensures.says header_right (λ r t k. search
+    (rules, tests))) c.in_ok-header.ensures.read.0 in
     omega arith
 
 pub returns-in_err-at-clause-says : goal.returns-in_err-at-clause-says
 returns-in_err-at-clause-says c =
     let r = c.from_residual-in_err-at in
     let p = err_from_is_err_and r.result r.ensures.1 in
-    rw (p.1, p.2) (open_functions c.requires (c.in_ok-header.ensures.says header_right (λ r t k. search (rules, tests))) c.in_ok-header.ensures.read.0
+    rw (p.1, p.2) (open_functions c.requires (c.in_ok-header.ensures.says header_right (λ r t k. search
+    (rules, tests))) c.in_ok-header.ensures.read.0
     c.from.ensures c.constructor_offset-first.ensures
     (c.in_ok-check_each.ensures constructor_right (λ r t k. search (rules, tests)))
     (scan_stop c.loop-g.invariant (omega arith) c.in_err-at.ensures.says))
 
 pub loop-g-preserved : goal.loop-g-preserved
 loop-g-preserved c =
-    let few = open_few c.requires (c.in_ok-header.ensures.says header_right (λ r t k. search (rules, tests))) c.in_ok-header.ensures.read.0 in
+    let few = open_few c.requires (c.in_ok-header.ensures.says header_right (λ r t k. search
+    (rules, tests))) c.in_ok-header.ensures.read.0 in
     scan_next c.loop-g.invariant (omega arith) c.in_ok-at.ensures.says c.in_ok-at.ensures.behind few
 
 pub returns-then-at-n-clause-says : goal.returns-then-at-n-clause-says

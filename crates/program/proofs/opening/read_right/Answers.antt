@@ -18,7 +18,8 @@ returns-then-not-right-clause-says g c = λ test says.
 pub returns : goal.returns
 returns g c =
     record {
-      says = λ test says. sym (record_good c.requires.measured g.R.Record.SIZE (λ x. test (g.R.Record.record_at (payload c.args.file.now) x)) refl (omega arith)
+      says = λ test says. sym (record_good c.requires.measured g.R.Record.SIZE (λ x. test (g.R.Record.record_at
+          (payload c.args.file.now) x)) refl (omega arith)
           (says c.read-record.result c.right.result c.right.ensures ∙ ap test c.read-record.ensures) c.if-not-right.false);
       read = (c.read-record.ensures, omega arith);
     }

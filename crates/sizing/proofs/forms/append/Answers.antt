@@ -19,6 +19,7 @@ returns c =
     let lx = rx.long in
     let long = same_len_mid x.count (x.count + y.count - x.count) x.alternatives part c.copy_from_slice.ensures.len ∙ rx.long in
     let some : x.count + y.count ≡ x.count + length part = rw copied (omega arith) in
-    let same = take-put_mid x.count (x.count + y.count - x.count) x.alternatives part (x.count + y.count) some (let f = c.requires.2 in omega arith)
+    let same = take-put_mid x.count (x.count + y.count - x.count) x.alternatives part (x.count + y.count) some
+    (let f = c.requires.2 in omega arith)
     ∙ ap (λ z. form_in x ++ z) copied in
     (record { few = c.requires.2; long = long; wide = rw same (all_append rx.wide ry.wide) }, refl, same)

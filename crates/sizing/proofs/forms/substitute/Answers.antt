@@ -24,7 +24,8 @@ loop-i-preserved-then-m-eq0 c =
     let e : n - c.loop-i.i ≡ k + 1 = omega arith in
     let p = rw e at c.loop-i.invariant in
     let z : n - (c.loop-i.i + 1) ≡ k = omega arith in
-    rw z (substituting_skip c.args.row c.args.arguments.now c.requires.0 c.requires.1 k c.loop-i.rest below p (rw c.from-m.ensures at c.if-m-eq0.true))
+    rw z (substituting_skip c.args.row c.args.arguments.now c.requires.0 c.requires.1 k c.loop-i.rest below p
+    (rw c.from-m.ensures at c.if-m-eq0.true))
 
 pub overflow_add-arguments : goal.overflow_add-arguments
 overflow_add-arguments c =
@@ -47,7 +48,8 @@ plus-requires c =
     let e : n - c.loop-i.i ≡ k + 1 = omega arith in
     let p = rw e at c.loop-i.invariant in
     let m = rw c.from-m.ensures at c.if-m-eq0.false in
-    rw c.from-m.ensures (substituting_one_asks c.args.row c.args.arguments.now c.requires.0 c.requires.1 k c.loop-i.rest below p m c.if-arguments-k-eq2.true)
+    rw c.from-m.ensures (substituting_one_asks c.args.row c.args.arguments.now c.requires.0 c.requires.1 k c.loop-i.rest below p m
+    c.if-arguments-k-eq2.true)
 
 pub loop-i-preserved-then-arguments-k-eq2 : goal.loop-i-preserved-then-arguments-k-eq2
 loop-i-preserved-then-arguments-k-eq2 c =
@@ -82,7 +84,8 @@ returns-in_err-rest c =
     let e : n - c.loop-i.i ≡ k + 1 = omega arith in
     let p = rw e at c.loop-i.invariant in
     rw c.from_residual.ensures
-    (substituting_many c.args.row c.args.arguments.now c.requires.0 c.requires.1 k c.loop-i.rest below p (rw c.from-m.ensures at c.in_err-rest.ensures))
+    (substituting_many c.args.row c.args.arguments.now c.requires.0 c.requires.1 k c.loop-i.rest below p
+    (rw c.from-m.ensures at c.in_err-rest.ensures))
 
 pub loop-i-preserved : goal.loop-i-preserved
 loop-i-preserved c =

@@ -110,8 +110,11 @@ instruction-ins-requires c =
 pub maker_of-requires : goal.maker_of-requires
 maker_of-requires c =
     let p = c.requires in
-    let l = here (goal.at.maker_of-requires c).At-loop-m in
-    (p.walking.records, operand_there p.walking p.there l.at c.instruction-ins.result (is (goal.at.maker_of-requires c).After-instruction-ins l))
+    let l = here (goal.at.maker_of-requires c).At-loop-m in (
+      p.walking.records,
+      operand_there p.walking p.there l.at c.instruction-ins.result (is
+          (goal.at.maker_of-requires c).After-instruction-ins l),
+    )
 
 pub returns-in_default-ins : goal.returns-in_default-ins
 returns-in_default-ins c =
@@ -207,7 +210,11 @@ returns-then-not-covered_by c =
 
 pub offset_bounds-stack-at-in-loop-m : goal.offset_bounds-stack-at-in-loop-m
 offset_bounds-stack-at-in-loop-m c =
-    omega (arith, (low (goal.at.offset_bounds-stack-at-in-loop-m c).In-Some (here (goal.at.offset_bounds-stack-at-in-loop-m c).At-loop-m)).1)
+    omega (
+      arith,
+      (low (goal.at.offset_bounds-stack-at-in-loop-m c).In-Some (here
+          (goal.at.offset_bounds-stack-at-in-loop-m c).At-loop-m)).1,
+    )
 
 pub bounds-stack-at : goal.bounds-stack-at
 bounds-stack-at c =

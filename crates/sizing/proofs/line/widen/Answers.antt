@@ -12,4 +12,5 @@ loop-i-preserved c = rw c.from.ensures (four_next (omega arith) c.loop-i.invaria
 pub returns : goal.returns
 returns c =
     let e : c.loop-i.i ≡ 4 = omega arith in
-    rw c.from-2.ensures (four_end c.args.row.coefficients c.loop-i.coefficients c.args.row.constant c.requires.four (rw e at c.loop-i.invariant))
+    rw c.from-2.ensures (four_end c.args.row.coefficients c.loop-i.coefficients c.args.row.constant c.requires.four
+    (rw e at c.loop-i.invariant))

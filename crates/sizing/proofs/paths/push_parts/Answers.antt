@@ -18,13 +18,23 @@ loop-i-preserved c =
     let base = c.args.st.now.height - 1 in
     let z = q.long in
     record {
-      same = record { count = q.count; splits = q.splits; long = length-set l.r.stack (base + c.from.result) (c.args.first + l.i) ∙ q.long };
-      pushed = rw c.from.ensures (parts_next l.r.stack (take base c.args.st.now.stack) base c.args.first l.i (omega arith) l.invariant.pushed);
+      same = record {
+        count = q.count;
+        splits = q.splits;
+        long = length-set l.r.stack (base + c.from.result) (c.args.first + l.i)
+            ∙ q.long;
+      };
+      pushed = rw c.from.ensures (parts_next l.r.stack (take base c.args.st.now.stack) base c.args.first l.i
+          (omega arith) l.invariant.pushed);
     }
 
 pub returns : goal.returns
 returns c =
     let l = c.loop-i in
     let q = l.invariant.same in
-    let e : l.i ≡ c.args.parts = omega arith in
-    (record { count = q.count; splits = q.splits; long = q.long }, rw c.from-2.ensures refl, rw c.from-2.ensures (rw e at l.invariant.pushed))
+    let e : l.i ≡ c.args.parts = omega arith in (
+      record { count = q.count; splits = q.splits; long = q.long },
+      rw c.from-2.ensures refl,
+      rw c.from-2.ensures
+          (rw e at l.invariant.pushed),
+    )

@@ -47,8 +47,13 @@ overflow_sub-i c = omega (arith, c.requires.some_i)
 
 pub instruction_offset-requires : goal.instruction_offset-requires
 instruction_offset-requires c =
-    let z = c.requires.function.walking.records.verified.small in
-    (omega (arith, (place (goal.at.instruction_offset-requires c).Start).3), omega (arith, (place (goal.at.instruction_offset-requires c).Start).2))
+    let z = c.requires.function.walking.records.verified.small in (
+      omega (arith, (place (goal.at.instruction_offset-requires c).Start).3),
+      omega (
+        arith,
+        (place (goal.at.instruction_offset-requires c).Start).2,
+      ),
+    )
 
 pub instruction-ins-requires : goal.instruction-ins-requires
 instruction-ins-requires c = (

@@ -12,8 +12,11 @@ pub constructor_at-requires : goal.constructor_at-requires
 constructor_at-requires c =
     let a = c.args in
     let top = c.from-k in
-    let inside = cells_inside top.result a.m.cells (omega (arith, top.ensures, c.requires.lent.3)) in
-    (room_less a.cells.now a.m.cells (cells_to top.result) c.requires.lent.0.cell_room inside, omega (arith, top.ensures, c.requires.lent.3, c.requires.lent.0.few_cells))
+    let inside = cells_inside top.result a.m.cells (omega (arith, top.ensures, c.requires.lent.3)) in (
+      room_less a.cells.now a.m.cells (cells_to top.result) c.requires.lent.0.cell_room inside,
+      omega
+          (arith, top.ensures, c.requires.lent.3, c.requires.lent.0.few_cells),
+    )
 
 pub overflow_sub-b : goal.overflow_sub-b
 overflow_sub-b c =

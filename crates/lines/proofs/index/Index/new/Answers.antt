@@ -21,5 +21,6 @@ loop-k-preserved c =
     let at = 4 * (l.k - 1) in
     let next : 4 * l.k ≡ at + 4 = omega arith in
     let there : at + 4 ≤ length table = omega arith in
-    marked_entry table at (at + 4 - at) l.marks (omega arith) there (entry_there table c.requires at (at + 4 - at) (omega arith) (omega arith) there).1
+    marked_entry table at (at + 4 - at) l.marks (omega arith) there (entry_there table c.requires at (at + 4 - at) (omega arith)
+    (omega arith) there).1
     c.number.ensures.0 (rw next at l.invariant)
