@@ -15,7 +15,9 @@ pub struct Fetched {
     pub next: usize,
 }
 
-// The four bytes of a record that goes on in the next block.
+// The four bytes of a record that goes on in the next block: few do, and kept out of the way of the others they cost the run nothing.
+#[cold]
+#[inline(never)]
 fn apart(file: &[u8], k: usize) -> u32
     requires { Verified file.now × (k + 4 ≤ length (payload file.now)) }
     ensures { WordThere (payload file.now) k result }
