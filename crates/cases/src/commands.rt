@@ -1,93 +1,77 @@
 // The five commands: each reads its words, makes its call and writes one answer line.
-use crate::{runs, surveys};
-use protocol::hex::Decoded;
-use protocol::words::{Number, Words};
-use protocol::{answers, hex, lent, words};
+use crate::runs;
+use protocol::words::Words;
+use protocol::{answers, lent};
+use rules::answers::Reason;
 
-#[derive(Clone, Copy)]
-enum Command {
-    Pack,
-    Unpack,
-    Check,
-    Run,
-    Lines,
-    Bad,
-}
-
-// Which command a line is: its name, with as many words as it takes.
-fn named(name: &[u8], count: usize) -> Command {
-    if (count == 3) & words::same(name, b"pack") {
-        return Command::Pack;
-    }
-    if (count == 3) & words::same(name, b"unpack") {
-        return Command::Unpack;
-    }
-    if (count == 2) & words::same(name, b"check") {
-        return Command::Check;
-    }
-    if (count == 9) & words::same(name, b"run") {
-        return Command::Run;
-    }
-    if (count == 6) & words::same(name, b"lines") {
-        return Command::Lines;
-    }
-    Command::Bad
-}
-
-fn asked(line: &[u8], words: Words) -> Command {
-    named(words::part(line, words::word(words, 0)), words.count)
-}
-
-fn convert(rt: &impl Print, bytes: &[u8], out: &mut [u8], packs: bool) {
-    if packs {
-        let answer = packing::pack(bytes, out);
-        answers::wrote(rt, b"packed ", answer, out);
-    } else {
-        let answer = packing::unpack(bytes, out);
-        answers::wrote(rt, b"unpacked ", answer, out);
-    }
-}
-
-// pack and unpack, with an output of so many bytes.
-fn lend_output(rt: &impl Print, bytes: &[u8], length: usize, packs: bool) {
-    if 70000 < length {
-        answers::bad_command(rt);
-        return;
-    }
+// Makes a call that writes to an output of so many bytes, and answers with what it wrote.
+fn lend_output<F: FnOnce(&mut [u8]) -> Result<usize, Reason>>(
+    rt: &impl Print,
+    name: &[u8],
+    room: u32,
+    call: F,
+) -> Option<()>
+    requires { F.IsAlwaysCallable call }
+{
     let mut out = [lent::BYTE; 70000];
-    convert(rt, bytes, &mut out[0..length], packs);
+    let lent = out.get_mut(..room as usize)?;
+    let answer = call(lent);
+    answers::wrote(rt, name, answer, lent);
+    Some(())
 }
 
-fn convert_line(rt: &impl Print, line: &mut [u8], words: Words, packs: bool) {
-    let Number::Of(length) = words::number_at(line, words, 2) else {
-        answers::bad_command(rt);
-        return;
-    };
-    let Decoded::Bytes(bytes) = hex::decode(line, words::word(words, 1)) else {
-        answers::bad_command(rt);
-        return;
-    };
-    lend_output(rt, words::part(line, bytes), length as usize, packs);
+fn pack(rt: &impl Print, mut words: Words<'_>) -> Option<()> {
+    let payload = words.bytes()?;
+    let room = words.number()?;
+    words.end()?;
+    lend_output(rt, b"packed ", room, |out| packing::pack(payload, out))
 }
 
-fn check_line(rt: &impl Print, line: &mut [u8], words: Words) {
-    let Decoded::Bytes(file) = hex::decode(line, words::word(words, 1)) else {
-        answers::bad_command(rt);
-        return;
-    };
-    answers::checked(rt, verifier::check(words::part(line, file)));
+fn unpack(rt: &impl Print, mut words: Words<'_>) -> Option<()> {
+    let file = words.bytes()?;
+    let room = words.number()?;
+    words.end()?;
+    lend_output(rt, b"unpacked ", room, |out| packing::unpack(file, out))
+}
+
+fn check(rt: &impl Print, mut words: Words<'_>) -> Option<()> {
+    let file = words.bytes()?;
+    words.end()?;
+    answers::checked(rt, verifier::check(file));
+    Some(())
+}
+
+fn lines(rt: &impl Print, mut words: Words<'_>) -> Option<()> {
+    let text = words.bytes()?;
+    let table = words.bytes()?;
+    let cons = u8::try_from(words.number()?).ok()?;
+    let nil = u8::try_from(words.number()?).ok()?;
+    let room = words.number()?;
+    words.end()?;
+    lend_output(
+        rt,
+        b"lines ",
+        room,
+        |out| lines::lines(text, table, cons, nil, out),
+    )
+}
+
+// Nothing, and no answer, where a line is no command.
+fn answered(rt: &impl Print, mut words: Words<'_>) -> Option<()> {
+    let name: &[u8] = words.word()?;
+    match name {
+        b"pack" => pack(rt, words),
+        b"unpack" => unpack(rt, words),
+        b"check" => check(rt, words),
+        b"run" => runs::run(rt, words),
+        b"lines" => lines(rt, words),
+        _ => None,
+    }
 }
 
 // One command, one answer. The line's bytes are used up.
 pub fn answer(rt: &impl Print, line: &mut [u8]) {
-    let words = words::split(line);
-    let it = asked(line, words);
-    match it {
-        Command::Pack => convert_line(rt, line, words, true),
-        Command::Unpack => convert_line(rt, line, words, false),
-        Command::Check => check_line(rt, line, words),
-        Command::Run => runs::run_line(rt, line, words),
-        Command::Lines => surveys::lines_line(rt, line, words),
-        Command::Bad => answers::bad_command(rt),
+    if answered(rt, Words::of(line)).is_none() {
+        answers::bad_command(rt);
     }
 }

@@ -1,150 +1,79 @@
 // The lines of standard input, in a buffer that holds the bytes that are not answered yet.
-ghost use Rattle.std.specs.Prelude.{◌≡◌, false, ◌≤◌, ◌<◌, length};
-ghost use Rattle.cases.specs.Window.{Within};
+ghost use Rattle.std.specs.Prelude.{◌≤◌};
 
 use crate::commands;
-use intake::write_output;
+use intake::{Failure, write_output};
 use protocol::answers;
 use std::io::Read;
 
+// A line has up to 140,000 characters and its end.
+const ROOM: usize = 140001;
+
 // The bytes from `from` up to `to` are not answered yet, and no line ends before `seen`. Of a line that is too long for the
 // buffer, `cut`, only the last bytes are there.
-#[derive(Clone, Copy)]
-pub struct Window {
-    pub from: usize,
-    pub seen: usize,
-    pub to: usize,
-    pub cut: bool,
-    pub ended: bool,
+#[derive(Drop)]
+pub struct Pending {
+    buffer: [u8; ROOM],
+    from: usize,
+    seen: usize,
+    to: usize,
+    cut: bool,
+    ghost started: { from ≤ seen },
+    ghost passed: { seen ≤ to },
+    ghost inside: { to ≤ 140001 },
 }
 
-// The place of the first line's end, or `to`.
-fn line_end(buffer: &[u8], seen: usize, to: usize) -> usize
-    requires { (seen ≤ to) × (to ≤ length buffer.now) }
-    ensures { (seen ≤ result) × (result ≤ to) }
-{
-    let mut i = seen;
-    while i < to {
-        if buffer[i] == b'\n' {
-            return i;
-        }
-        i += 1;
-    }
-    i
-}
-
-fn say(rt: &impl Print, line: &mut [u8], cut: bool) {
+fn answer(rt: &impl Print, line: &mut [u8], cut: bool) -> Result<(), Failure> {
     if cut {
         answers::bad_command(rt);
     } else {
         commands::answer(rt, line);
     }
-}
-
-// The end of an answer. False where it cannot be written, which standard error then says.
-fn end_line(rt: &(impl Print + Eprint)) -> bool {
     write_output(rt, b"\n")
 }
 
-fn answer(rt: &(impl Print + Eprint), line: &mut [u8], cut: bool) -> bool {
-    say(rt, line, cut);
-    end_line(rt)
-}
-
-// Move the bytes that are not answered yet to the buffer's front.
-fn shift(buffer: &mut [u8], from: usize, to: usize)
-    requires { (from ≤ to) × (to ≤ length buffer.old) }
-{
-    let mut i: usize = from;
-    while i < to {
-        buffer[i - from] = buffer[i];
-        i += 1;
-    }
-}
-
-// The end of the input: a last line may have no line's end.
-fn last(rt: &(impl Input + Print + Eprint), buffer: &mut [u8], window: Window) -> Window
-    requires { Within window (length buffer.old) }
-    ensures { Within result (length buffer.new) }
-{
-    let from = window.from;
-    let to = window.to;
-    let cut = window.cut;
-    if (from < to) | cut {
-        answer(rt, &mut buffer[from..to], cut);
-    }
-    Window {
-        from: to,
-        seen: to,
-        to: to,
-        cut: false,
-        ended: true,
-    }
-}
-
-// One read, and how many bytes it put at the part's front: none where it fails.
-fn read(rt: &impl Input, part: &mut [u8]) -> usize
-    ensures { result ≤ length part.new }
-{
-    rt.reader().read(part).unwrap_or(0)
-}
-
-// One read into the buffer's free end.
-fn more(rt: &(impl Input + Print + Eprint), buffer: &mut [u8], window: Window) -> Window
-    requires { Within window (length buffer.old) }
-    ensures { Within result (length buffer.new) }
-{
-    let to = window.to;
-    let n = read(rt, &mut buffer[to..]);
-    if n == 0 {
-        return last(rt, buffer, window);
-    }
-    Window {
-        from: window.from,
-        seen: window.seen,
-        to: to + n,
-        cut: window.cut,
-        ended: false,
-    }
-}
-
-// A window at the buffer's front.
-fn at_front(seen: usize, to: usize, cut: bool) -> Window
-    ensures { result ≡ record { from = 0; seen = seen; to = to; cut = cut; ended = false } }
-{
-    Window {
-        from: 0,
-        seen: seen,
-        to: to,
-        cut: cut,
-        ended: false,
-    }
-}
-
-// One turn: answer a line that is there whole, or make room, or read. It is the last where an answer cannot be written.
-pub fn turn(rt: &(impl Input + Print + Eprint), buffer: &mut [u8], window: Window) -> Window
-    requires { Within window (length buffer.old) }
-    ensures { Within result (length buffer.new) }
-{
-    let from = window.from;
-    let to = window.to;
-    let end = line_end(buffer, window.seen, to);
-    if end < to {
-        let said = answer(rt, &mut buffer[from..end], window.cut);
-        return Window {
-            from: end + 1,
-            seen: end + 1,
-            to: to,
+impl Pending {
+    pub fn new() -> Self {
+        Pending {
+            buffer: [0u8; ROOM],
+            from: 0,
+            seen: 0,
+            to: 0,
             cut: false,
-            ended: !said,
-        };
+        }
     }
-    if 0 < from {
-        shift(buffer, from, to);
-        return at_front(to - from, to - from, window.cut);
+
+    // Moves the bytes that are not answered yet to the buffer's front. A line that fills the buffer is cut.
+    fn make_room(&mut self) {
+        if 0 < self.from {
+            self.buffer.copy_within(self.from..self.to, 0);
+            self.to -= self.from;
+            self.from = 0;
+        } else if self.to == ROOM {
+            self.to = 0;
+            self.cut = true;
+        }
+        self.seen = self.to;
     }
-    if to == buffer.len() {
-        return at_front(0, 0, true);
+
+    // One turn: answer a line that is there whole, or read more. The answer is whether another turn is to follow.
+    pub fn turn(&mut self, rt: &(impl Input + Print)) -> Result<bool, Failure> {
+        let unseen = &self.buffer[self.seen..self.to];
+        if let Some(length) = unseen.iter().position(|b| *b == b'\n') {
+            let end = self.seen + length;
+            answer(rt, &mut self.buffer[self.from..end], self.cut)?;
+            self.from = end + 1;
+            self.seen = end + 1;
+            self.cut = false;
+            return Ok(true);
+        }
+        self.make_room();
+        let count = rt.reader().read(&mut self.buffer[self.to..]).unwrap_or(0);
+        // A read that fails ends the input too. A last line may have no line's end.
+        if count == 0 && (self.from < self.to || self.cut) {
+            answer(rt, &mut self.buffer[self.from..self.to], self.cut)?;
+        }
+        self.to += count;
+        Ok(0 < count)
     }
-    more(rt, buffer, at_front(to, to, window.cut))
 }
