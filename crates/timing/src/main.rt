@@ -6,18 +6,12 @@
 #![tactic(auto)]
 
 use blocks::long_at;
-use rules::answers::{Ending, Length, Verdict};
+use rules::answers::{Ending, Reason};
 use std::io::Read;
 
-// A number for a verdict: 100 where it is accepted, else the refusal's.
-fn verdict_number(verdict: Verdict) -> u64 {
-    match verdict {
-        Verdict::Accepted(_) => 100,
-        Verdict::Refused(reason) => {
-            let told = report::numbers_of(reason);
-            told.number as u64
-        }
-    }
+// The number of a refusal.
+fn refusal_number(reason: Reason) -> u64 {
+    u64::from(report::numbers_of(reason).number)
 }
 
 // A number for an ending: 100 for a result, 101 where the program gave up, else the refusal's.
@@ -25,133 +19,65 @@ fn ending_number(ending: Ending) -> u64 {
     match ending {
         Ending::Result(_) => 100,
         Ending::Aborted => 101,
-        Ending::Refused(reason) => {
-            let told = report::numbers_of(reason);
-            told.number as u64
-        }
+        Ending::Refused(reason) => refusal_number(reason),
     }
 }
 
-// A number for a length: itself, or the refusal's.
-fn length_number(length: Length) -> u64 {
-    match length {
-        Length::Bytes(n) => n as u64,
-        Length::Refused(reason) => {
-            let told = report::numbers_of(reason);
-            told.number as u64
-        }
+// Does a job so many times, and sums up its numbers.
+fn repeat<F: FnMut() -> u64>(times: u32, mut job: F) -> u64
+    requires { F.IsAlwaysCallable job }
+{
+    let mut sum: u64 = 0;
+    for _ in 0..times {
+        sum = sum.wrapping_add(job());
     }
+    sum
 }
 
+// A number for each verdict: 100 where it is accepted, else the refusal's.
 fn checks(file: &[u8], times: u32) -> u64 {
-    let mut sum: u64 = 0;
-    let mut left = times;
-    while 0 < left {
-        let verdict = verifier::check(file);
-        sum = std::num::wrapping_add_u64(sum, verdict_number(verdict));
-        left -= 1;
-    }
-    sum
+    repeat(
+        times,
+        || verifier::check(file).map_or_else(refusal_number, |_| 100),
+    )
 }
 
-fn runs(
-    file: &[u8],
-    entry: u32,
-    arguments: &[u8],
-    budget: u32,
-    cells: &mut [u16],
-    stack: &mut [u16],
-    frames: usize,
-    out: &mut [u8],
-    times: u32,
-) -> u64 {
-    let mut sum: u64 = 0;
-    let mut left = times;
-    while 0 < left {
-        let answer = lending::run_here(file, entry, arguments, budget, cells, stack, frames, out);
-        let ending = answer.ending;
-        sum = std::num::wrapping_add_u64(sum, ending_number(ending));
-        sum = std::num::wrapping_add_u64(sum, answer.steps as u64);
-        left -= 1;
-    }
-    sum
-}
-
-fn surveys(text: &[u8], table: &[u8], cons: u8, nil: u8, out: &mut [u8], times: u32) -> u64 {
-    let mut sum: u64 = 0;
-    let mut left = times;
-    while 0 < left {
-        let length = lines::lines(text, table, cons, nil, out);
-        sum = std::num::wrapping_add_u64(sum, length_number(length));
-        left -= 1;
-    }
-    sum
-}
-
-fn line(rt: &impl Print, sum: u64) {
-    let _ = println!(rt; "{sum}");
-}
-
-fn time_runs(rt: &impl Print, header: &[u8; 40], file: &[u8], arguments: &[u8]) {
-    let cells = long_at(header, 24) as usize;
-    let stack = long_at(header, 28) as usize;
+fn runs(header: &[u8; 40], file: &[u8], arguments: &[u8]) -> Option<u64> {
+    let mut cells = [0u16; 327680];
+    let mut stack = [0u16; 65535];
+    let mut out = [0u8; 65536];
+    let cells = cells.get_mut(..long_at(header, 24) as usize)?;
+    let stack = stack.get_mut(..long_at(header, 28) as usize)?;
+    let out = out.get_mut(..long_at(header, 36) as usize)?;
+    let entry = long_at(header, 16);
+    let budget = long_at(header, 20);
     let frames = long_at(header, 32) as usize / 3;
-    let out = long_at(header, 36) as usize;
-    if 327680 < cells {
-        return;
-    }
-    if 65535 < stack {
-        return;
-    }
-    if 65536 < out {
-        return;
-    }
-    let mut lent_cells = [0u16; 327680];
-    let mut lent_stack = [0u16; 65535];
-    let mut lent_out = [0u8; 65536];
-    let sum = runs(
-        file,
-        long_at(header, 16),
-        arguments,
-        long_at(header, 20),
-        &mut lent_cells[0..cells],
-        &mut lent_stack[0..stack],
-        frames,
-        &mut lent_out[0..out],
-        long_at(header, 4),
-    );
-    line(rt, sum);
+    let sum = repeat(long_at(header, 4), || {
+        let answer = lending::run_here(file, entry, arguments, budget, cells, stack, frames, out);
+        ending_number(answer.ending).wrapping_add(u64::from(answer.steps))
+    });
+    Some(sum)
 }
 
-// Cons and nil are the low bytes of their numbers.
-fn time_surveys(rt: &impl Print, header: &[u8; 40], text: &[u8], table: &[u8]) {
-    let out = long_at(header, 36) as usize;
-    if 65536 < out {
-        return;
-    }
-    let mut lent_out = [0u8; 65536];
-    let sum = surveys(
-        text,
-        table,
-        header[16],
-        header[20],
-        &mut lent_out[0..out],
-        long_at(header, 4),
-    );
-    line(rt, sum);
+// A number for each length: itself, or the refusal's. Cons and nil are the low bytes of their numbers.
+fn surveys(header: &[u8; 40], text: &[u8], table: &[u8]) -> Option<u64> {
+    let mut out = [0u8; 65536];
+    let out = out.get_mut(..long_at(header, 36) as usize)?;
+    let sum = repeat(long_at(header, 4), || {
+        match lines::lines(text, table, header[16], header[20], out) {
+            Ok(length) => length as u64,
+            Err(reason) => refusal_number(reason),
+        }
+    });
+    Some(sum)
 }
 
-fn do_job(rt: &impl Print, header: &[u8; 40], file: &[u8], arguments: &[u8]) {
-    let mode = long_at(header, 0);
-    if mode == 1 {
-        line(rt, checks(file, long_at(header, 4)));
-        return;
+fn sum_of(header: &[u8; 40], file: &[u8], arguments: &[u8]) -> Option<u64> {
+    match long_at(header, 0) {
+        1 => Some(checks(file, long_at(header, 4))),
+        3 => surveys(header, file, arguments),
+        _ => runs(header, file, arguments),
     }
-    if mode == 3 {
-        time_surveys(rt, header, file, arguments);
-        return;
-    }
-    time_runs(rt, header, file, arguments);
 }
 
 // Bytes of standard input, as many as the buffer has. Where there are fewer, the rest of it stays as it is.
@@ -159,30 +85,22 @@ fn read_full(rt: &impl Input, buffer: &mut [u8]) {
     let _ = rt.reader().read_exact(buffer);
 }
 
-fn read_and_do(
-    rt: &(impl Input + Print),
-    header: &[u8; 40],
-    file: &mut [u8],
-    arguments: &mut [u8],
-) {
-    read_full(rt, file);
-    read_full(rt, arguments);
-    do_job(rt, header, file, arguments);
-}
-
-// The longest texts and tables of the jobs are longer than programs and arguments can be.
-fn main(rt: HostRuntime) {
+// Nothing where the job asks for more than there is room for. The longest texts and tables of the jobs are longer than programs and
+// arguments can be.
+fn do_job(rt: &impl Input) -> Option<u64> {
     let mut header = [0u8; 40];
     let mut file = [0u8; 131072];
     let mut arguments = [0u8; 70304];
-    read_full(&rt, &mut header);
-    let n = long_at(&header, 8) as usize;
-    let m = long_at(&header, 12) as usize;
-    if 131072 < n {
-        return;
+    read_full(rt, &mut header);
+    let file = file.get_mut(..long_at(&header, 8) as usize)?;
+    let arguments = arguments.get_mut(..long_at(&header, 12) as usize)?;
+    read_full(rt, file);
+    read_full(rt, arguments);
+    sum_of(&header, file, arguments)
+}
+
+fn main(rt: HostRuntime) {
+    if let Some(sum) = do_job(&rt) {
+        let _ = println!(rt; "{sum}");
     }
-    if 70304 < m {
-        return;
-    }
-    read_and_do(&rt, &header, &mut file[0..n], &mut arguments[0..m]);
 }
