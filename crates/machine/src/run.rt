@@ -86,6 +86,7 @@ pub fn drive(
         stack.new frames.new result.0 result.1 }
 {
     let mut r = start;
+    // How often frames change is the run's own: there is no range to go over.
     loop {
         let (t, why) = straight(file, cells, stack, m, r);
         match turn(file, index, stack, frames, m, t, why) {

@@ -76,6 +76,7 @@ pub fn straight_line(
     }
     let mut height = st.height;
     let mut j = start;
+    // The line goes on up to a return or a stop, wherever that is.
     loop {
         let ins = instruction(file, instruction_offset(f.base, j - 1));
         let Some(m) = maker_of(file, heads, ins) else {

@@ -165,6 +165,7 @@ pub fn straight(
         result.0 result.1 }
 {
     let mut r = start;
+    // The steps that are left stand in the registers, since a call and a return take one too.
     while r.left > 0 {
         match one(file, cells, stack, m, r) {
             Ok(t) => {
