@@ -12,7 +12,7 @@ use Rattle.panel.specs.Tables.{panel_tables}
 pub front_long : (n m : ℕ) → n ≤ m → length {A = ℕ} (take n (replicate m 0)) ≡ n
 front_long n m h = simp (length-take, length-replicate) (omega arith)
 
-pub tables_lent : (c s f : ℕ) {a b n : ℕ} → a ≡ min 4096 c → b ≡ min 2048 s → n ≡ min 256 f → (out : List ℕ)
+pub tables_lent : (c s f : ℕ) {a b n : ℕ} → a ≡ min c 4096 → b ≡ min s 2048 → n ≡ min f 256 → (out : List ℕ)
     → lent_of (take (5 * a) (replicate 20480 0)) (take b (replicate 2048 0)) (replicate n no_frame) out ≡ panel_tables c s f (length out)
 tables_lent c s f {a} {b} {n} ea eb en out = λ i. record {
   cells = cells i;

@@ -21,17 +21,6 @@ pub extern "C" fn bedrafoly_check(file: &[u8], answer: &mut [u8]) -> u32
     tell(check_words(verifier::check(file)), 4, answer)
 }
 
-// The lesser of two numbers: what is lent of a table that has so many entries.
-fn least(asked: u32, most: usize) -> usize
-    ensures { result ≡ min most asked }
-{
-    let n = asked as usize;
-    if most <= n {
-        return most;
-    }
-    n
-}
-
 // A run of function `entry` on argument bytes, in the first entries of tables of 4,096 cells, 2,048 stack places and 256 frames.
 #[unsafe(no_mangle)]
 pub extern "C" fn bedrafoly_run_within(
@@ -50,8 +39,9 @@ pub extern "C" fn bedrafoly_run_within(
 {
     let mut cell_table = [0u16; 20480];
     let mut stack_table = [0u16; 2048];
-    let numbers = 5 * least(cells, 4096);
-    let places = least(stack, 2048);
+    let numbers = 5 * (cells as usize).min(4096);
+    let places = (stack as usize).min(2048);
+    let records = (frames as usize).min(256);
     let ran = lending::run_small(
         file,
         entry,
@@ -59,7 +49,7 @@ pub extern "C" fn bedrafoly_run_within(
         budget,
         &mut cell_table[..numbers],
         &mut stack_table[..places],
-        least(frames, 256),
+        records,
         out,
     );
     tell(run_words(ran), 5, answer)
