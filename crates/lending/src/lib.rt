@@ -36,24 +36,6 @@ pub fn run_on<const N: usize>(
     )
 }
 
-// For the crates above: the same in the smallest table, under the name that panel calls.
-pub fn run_small(
-    file: &[u8],
-    entry: u32,
-    arguments: &[u8],
-    budget: u32,
-    cells: &mut [u16],
-    stack: &mut [u16],
-    n: usize,
-    out: &mut [u8],
-) -> Answer
-    requires { n ≤ 256 }
-    ensures { RunsHere file.now entry arguments.now budget cells.old stack.old n
-        out.old cells.new stack.new out.new result }
-{
-    run_on::<256>(file, entry, arguments, budget, cells, stack, n, out)
-}
-
 // The same run with a frame table of its own, of as many records as are usable, in the shortest table that has them. No parameter
 // holds a record.
 pub fn run_here(

@@ -42,7 +42,7 @@ pub extern "C" fn bedrafoly_run_within(
     let numbers = 5 * (cells as usize).min(4096);
     let places = (stack as usize).min(2048);
     let records = (frames as usize).min(256);
-    let ran = lending::run_small(
+    let ran = lending::run_on::<256>(
         file,
         entry,
         arguments,

@@ -9,20 +9,20 @@ use Rattle.words.proofs.WordLaws.{told_words}
 use Rattle.panel.proofs.TableLaws.{front_long, tables_lent}
 use Rattle.panel.proofs.bedrafoly_run_within.Goals as goal
 
-pub slice_bounds-run_small-end : goal.slice_bounds-run_small-end
-slice_bounds-run_small-end c =
+pub slice_bounds-run_on-end : goal.slice_bounds-run_on-end
+slice_bounds-run_on-end c =
     let a = c.min-numbers in
     sym (front_long (5 * a.result) 20480 (omega (arith, a.ensures)))
 
-pub slice_bounds-run_small-end-2 : goal.slice_bounds-run_small-end-2
-slice_bounds-run_small-end-2 c =
+pub slice_bounds-run_on-end-2 : goal.slice_bounds-run_on-end-2
+slice_bounds-run_on-end-2 c =
     let a = c.min-places in
     sym (front_long a.result 2048 (omega (arith, a.ensures)))
 
 pub returns : goal.returns
 returns c =
     let a = c.args in
-    let ran = c.run_small-ran.ensures.runs in
+    let ran = c.run_on-ran.ensures.runs in
     let lent = tables_lent _ _ _ c.min-numbers.ensures c.min-places.ensures c.min-records.ensures a.out.now in
     let says = ap (λ (l : Lent). run_words (measured (run a.file.now a.entry a.arguments.now a.budget l))) lent in
     let t = told_words c.run_words.result _ 5 (omega arith) (c.run_words.ensures.0 ∙ ap run_words ran.says ∙ says)
