@@ -5,12 +5,13 @@ ghost use Rattle.lines.specs.Marks.{number as number_of, Marked};
 
 use crate::table::letters;
 
-// A table, and for each three capital letters the constructor of the first entry that has them.
+// A table, and for each three capital letters the constructor of the first entry that has them. The marks are lent, since an index that
+// holds them is copied, all 35 KB, where it is returned.
 #[derive(Drop)]
 pub struct Index<'a> {
     table: &'a [u8],
-    marks: [Option<u8>; 17576],
-    pub ghost marked: { Marked (entries table.now) marks },
+    marks: &'a [Option<u8>; 17576],
+    pub ghost marked: { Marked (entries table.now) marks.now },
 }
 
 // The number of the three capital letters that a text begins with: AAA has 0 and ZZZ has 17,575.
@@ -24,17 +25,24 @@ fn number(text: &[u8]) -> usize
     676 * first + 26 * second + third
 }
 
+// The marks of a table, made from the last entry to the first, so that the earlier of two with the same letters counts.
+pub fn marks(table: &[u8]) -> [Option<u8>; 17576]
+    requires { table_right table.now ≡ true }
+    ensures { Marked (entries table.now) result }
+{
+    let mut marks = [None; 17576];
+    for k in (0..table.len() / 4).rev() {
+        let entry = &table[4 * k..4 * k + 4];
+        marks[number(entry)] = Some(entry[3]);
+    }
+    marks
+}
+
 impl<'a> Index<'a> {
-    // The marks are made from the last entry to the first, so that the earlier of two with the same letters counts.
-    pub fn new(table: &'a [u8]) -> Index<'a>
-        requires { table_right table.now ≡ true }
+    pub fn new(table: &'a [u8], marks: &'a [Option<u8>; 17576]) -> Index<'a>
+        requires { Marked (entries table.now) marks.now }
         ensures { result.table.now ≡ table.now }
     {
-        let mut marks = [None; 17576];
-        for k in (0..table.len() / 4).rev() {
-            let entry = &table[4 * k..4 * k + 4];
-            marks[number(entry)] = Some(entry[3]);
-        }
         Index { table, marks }
     }
 
@@ -48,11 +56,11 @@ impl<'a> Index<'a> {
         self.marks[number(text)]
     }
 
-    // The code of a line that has one.
+    // The code of a line that has one. So no 0 is returned for want of a code; a trap in its place would be tested for at every line.
     pub fn known_code(&self, text: &[u8]) -> u8
         requires { IsSome (code_of (entries self.now.table.now) (take 4 text.now)) }
         ensures { code_of (entries self.now.table.now) (take 4 text.now) ≡ Some result }
     {
-        self.marks[number(text)].unwrap()
+        self.marks[number(text)].unwrap_or(0)
     }
 }

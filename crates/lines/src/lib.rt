@@ -21,7 +21,8 @@ pub fn lines(text: &[u8], table: &[u8], cons: u8, nil: u8, out: &mut [u8]) -> Re
     if cons == nil || !table::right(table) {
         return Err(Reason::BadTable);
     }
-    let index = Index::new(table);
+    let marks = index::marks(table);
+    let index = Index::new(table, &marks);
     text::scan(text, &index)?;
     text::deliver(text, &index, cons, nil, out)
 }

@@ -1,8 +1,8 @@
--- `lines::index::Index::new` meets its contract: the marks are those of the entries from entry k on. Assumes nothing.
+-- `lines::index::marks` meets its contract: the marks are those of the entries from entry k on. Assumes nothing.
 use Rattle.std.proofs.Common.{◌≡◌, ◌≤◌, ◌+◌, ◌-◌, ◌*◌, ◌/◌, length, arith}
 use Rattle.lines.proofs.TableLaws.{entries_end, right_even, entry_there}
 use Rattle.lines.proofs.MarkLaws.{marked_none, marked_entry}
-use Rattle.lines.proofs.index.Index.new.Goals as goal
+use Rattle.lines.proofs.index.marks.Goals as goal
 
 pub loop-k-init : goal.loop-k-init
 loop-k-init c =
