@@ -2,22 +2,31 @@
 ghost use Rattle.std.specs.Prelude.{◌≡◌, ◌≤◌, length, take, drop};
 ghost use Rattle.rules.specs.Answers.{told};
 ghost use Rattle.rules.specs.Base.{passed, all, is_zero};
-ghost use Rattle.rules.specs.Container.{checksum, used_right, block_right, verify_block, verify};
+ghost use Rattle.rules.specs.Container.{weighed, checksum, used_right, block_right, verify_block, verify};
 ghost use Rattle.rules.specs.Established.{Measured};
 
 use super::reading::{long_at, word_at};
 use rules::answers::Reason;
 
+// For the crates above, too: what the bytes at a block's front add to its checksum.
+pub fn weighed(b: &[u8]) -> u32
+    requires { length b.now ≤ 508 }
+    ensures { result ≡ weighed 1 b.now }
+{
+    let mut sum = 0;
+    for i in 0..b.len() {
+        sum += u32::from(b[i]) * (i as u32 + 1);
+    }
+    sum
+}
+
 // For the crates above, too: the checksum of a block.
+#[tactic(auto, unfolding(rules::specs::Container::checksum))]
 pub fn checksum(b: &[u8]) -> u32
     requires { 508 ≤ length b.now }
     ensures { result ≡ checksum b.now }
 {
-    let mut sum = 0;
-    for i in 0..508 {
-        sum += u32::from(b[i]) * (i as u32 + 1);
-    }
-    sum
+    weighed(&b[..508])
 }
 
 // Whether a block's used count is right.

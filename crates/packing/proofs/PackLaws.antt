@@ -1,6 +1,6 @@
 -- What pack and unpack answer, and a block and its check as they are written.
 use mathlib.Core.Path.{◌≡◌, refl, sym, ap, ◌∙◌}
-use mathlib.Core.List.{List, ◌++◌, append-nil, append_assoc}
+use mathlib.Core.List.{List, [], ◌∷◌, ◌++◌, append-nil, append_assoc}
 use mathlib.Core.Bool.{false}
 use Prim.Native.Nat.{ℕ, zero, suc, ◌+◌, ◌*◌, ◌-◌, ◌/◌, ◌≤◌, ◌<◌, min}
 use native.Mathlib.Omega.{arith}
@@ -47,12 +47,32 @@ module _ (file : List ℕ) (room : ℕ) {bytes : List ℕ} (e : verified file �
   unfolding unpack
   unpack_fits h = rw (e, le-leb _ _ h)
 
+---- The sum of a block
+
+weighed_append : (k : ℕ) (a b : List ℕ) → weighed k (a ++ b) ≡ weighed k a + weighed (k + length a) b
+unfolding weighed
+weighed_append k [] b = rw add-zero (omega arith)
+weighed_append k (x ∷ a) b = rw (weighed_append (suc k) a b, suc-add, add-suc) (omega arith)
+
+weighed_zeros : (k n : ℕ) → weighed k (replicate n 0) ≡ 0
+unfolding weighed
+weighed_zeros k zero = refl
+weighed_zeros k (suc n) = rw (weighed_zeros (suc k) n) (omega arith)
+
 ---- A block
 
 module _ (k : ℕ) (part : List ℕ) (h : length part ≤ 504) where
   pub check_whole : checksum (block_body k part) ≡ weighed 1 (block_body k part)
   unfolding checksum
   check_whole = ap (weighed 1) (take_all 508 (block_body k part) (omega (arith, body_length k part h)))
+
+  -- the zeros add nothing
+  body_check : checksum (block_body k part) ≡ weighed 1 ((bytes2 k ++ bytes2 (length part)) ++ part)
+  unfolding block_body
+  body_check =
+      let used : List ℕ = (bytes2 k ++ bytes2 (length part)) ++ part in
+      check_whole ∙ weighed_append 1 used (replicate (504 - length part) 0)
+      ∙ omega (arith, weighed_zeros (1 + length used) (504 - length part))
 
 -- bytes behind a front, as a write to a part of the slice leaves them
 front_put : {o c : List ℕ} (w b out : List ℕ) (a m : ℕ) → o ≡ front_written w out → c ≡ b → a ≡ length w → m ≡ length b
@@ -70,14 +90,15 @@ begun used number count part out = put_mid 4 (4 + used - 4) (put_mid 2 2 (number
 abbrev filled : ℕ → List ℕ → List ℕ → List ℕ
 filled used zeros out = put_mid (4 + used) (508 - (4 + used)) out zeros
 
--- a block that is written part by part, its checksum last
+-- a block that is written part by part, its checksum last, which is summed over what is used
 pub block_written : (k : ℕ) (part out : List ℕ) {number count part' zeros check : List ℕ} {s : ℕ} → length part ≤ 504 → length out ≡ 512
     → number ≡ to_le_bytes w16 k → count ≡ to_le_bytes w16 (length part) → part' ≡ part
+    → s ≡ weighed 1 (take (4 + length part) (begun (length part) number count part' out))
     → zeros ≡ replicate (length (mid_of (4 + length part) (508 - (4 + length part)) (begun (length part) number count part' out))) 0
-    → s ≡ checksum (filled (length part) zeros (begun (length part) number count part' out)) → check ≡ to_le_bytes w32 s
+    → check ≡ to_le_bytes w32 s
     → put_mid 508 4 (filled (length part) zeros (begun (length part) number count part' out)) check ≡ block k part
-unfolding block block_body checksum
-block_written k part out {number} {count} {part'} {zeros} {check} {s} h l e₁ e₂ e₃ e₄ sum e₅ =
+unfolding block block_body
+block_written k part out {number} {count} {part'} {zeros} {check} {s} h l e₁ e₂ e₃ sum e₄ e₅ =
     let u = length part in
     let head : List ℕ = bytes2 k ++ bytes2 u in
     let body : List ℕ = block_body k part in
@@ -91,8 +112,8 @@ block_written k part out {number} {count} {part'} {zeros} {check} {s} h l e₁ e
     let f₄ : filled u zeros (begun u number count part' out) ≡ front_written body out =
     front_put (head ++ part) (replicate (504 - u) 0) out (4 + u) (508 - (4 + u)) f₃ zero (sym (length-append head part))
     (simp length-replicate (omega arith)) in
-    let right : s ≡ checksum body = sum ∙ ap checksum f₄ ∙ ap (weighed 1) (take_at body _ 508 (body_length k part h))
-    ∙ sym (check_whole k part h) in
+    let right : s ≡ checksum body = sum ∙ ap (λ (o : List ℕ). weighed 1 (take (4 + u) o)) f₃
+    ∙ ap (weighed 1) (take_at (head ++ part) _ (4 + u) (length-append head part)) ∙ sym (body_check k part h) in
     let f₅ = front_put body (bytes4 s) out 508 4 f₄ (e₅ ∙ four_bytes s) (sym (body_length k part h)) refl in
     let whole : length (body ++ bytes4 s) ≡ 512 = length-append body (bytes4 s) ∙ omega (arith, body_length k part h) in
     let end : front_written (body ++ bytes4 s) out ≡ body ++ bytes4 (checksum body) =

@@ -3,7 +3,7 @@ ghost use Rattle.std.specs.Prelude.{◌≡◌, ◌+◌, ◌*◌, ◌≤◌, ◌<
 ghost use Rattle.rules.specs.Container.{block, blocks_of};
 ghost use Rattle.rules.specs.Memory.{front_written};
 
-// Block k with its part of the payload.
+// Block k with its part of the payload. Only what is used is summed: the zeros behind it add nothing to the checksum.
 fn write_block(part: &[u8], k: usize, out: &mut [u8])
     requires { (length part.now ≤ 504) × (k < 65536) × (length out.old ≡ 512) }
     ensures { out.new ≡ block k part.now }
@@ -12,8 +12,8 @@ fn write_block(part: &[u8], k: usize, out: &mut [u8])
     out[0..2].copy_from_slice(&(k as u16).to_le_bytes());
     out[2..4].copy_from_slice(&(used as u16).to_le_bytes());
     out[4..4 + used].copy_from_slice(part);
+    let sum = blocks::weighed(&out[..4 + used]);
     out[4 + used..508].fill(0);
-    let sum = blocks::checksum(out);
     out[508..512].copy_from_slice(&sum.to_le_bytes());
 }
 

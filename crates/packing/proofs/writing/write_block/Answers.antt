@@ -7,6 +7,6 @@ pub returns : goal.returns
 returns c =
     block_written c.args.k c.args.part.now c.args.out.now c.requires.0 c.requires.2
     (c.copy_from_slice.ensures.after ∙ c.to_le_bytes.ensures)
-    (c.copy_from_slice-2.ensures.after ∙ c.to_le_bytes-2.ensures) c.copy_from_slice-3.ensures.after (c.fill.ensures.after
-    (λ y e. e)) c.checksum-sum.ensures
+    (c.copy_from_slice-2.ensures.after ∙ c.to_le_bytes-2.ensures) c.copy_from_slice-3.ensures.after c.weighed-sum.ensures
+    (c.fill.ensures.after (λ y e. e))
     (c.copy_from_slice-4.ensures.after ∙ c.to_le_bytes-3.ensures)

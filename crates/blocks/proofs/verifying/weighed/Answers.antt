@@ -1,9 +1,10 @@
--- `blocks::verifying::checksum` meets its contract: the loop's sum is that of the bytes passed. Assumes nothing.
-use Rattle.std.proofs.Common.{◌+◌, refl, ◌≡◌, arith}
-use Rattle.rules.specs.Container.{weighed, checksum}
+-- `blocks::verifying::weighed` meets its contract: the loop's sum is that of the bytes passed. Assumes nothing.
+use Rattle.std.proofs.Common.{◌+◌, refl, ◌≡◌, length, arith}
+use lib.Seq.{take_all}
+use Rattle.rules.specs.Container.{weighed}
 use Rattle.rules.proofs.ContainerLaws.{check_next}
 use Rattle.rules.proofs.SumLaws.{term_bound}
-use Rattle.blocks.proofs.verifying.checksum.Goals as goal
+use Rattle.blocks.proofs.verifying.weighed.Goals as goal
 
 pub loop-i-init : goal.loop-i-init
 unfolding weighed
@@ -26,7 +27,6 @@ loop-i-preserved c =
     }
 
 pub returns : goal.returns
-unfolding checksum
 returns c =
-    let e : c.loop-i.i ≡ 508 = omega arith in
-    rw e at c.loop-i.invariant.same
+    let e : c.loop-i.i ≡ length c.args.b.now = omega arith in
+    rw (e, take_all (length c.args.b.now) c.args.b.now (omega arith)) at c.loop-i.invariant.same
