@@ -50,13 +50,15 @@ pub fn constant(w: u32) -> Alternative
     }
 }
 
-// The form of one alternative.
+// The form of one alternative. Zeros stand behind it: sixteen copies of it would take longer, and no one reads them.
 pub fn single(a: Alternative) -> Form
     requires { Wide a }
     ensures { Single result a }
 {
+    let mut alternatives = [constant(0); 16];
+    alternatives[0] = a;
     Form {
-        alternatives: [a; 16],
+        alternatives,
         count: 1,
     }
 }
