@@ -81,5 +81,8 @@ pub fn instruction(file: &[u8], at: usize) -> Instruction
     requires { Verified file.now × (at + 4 ≤ length (payload file.now)) }
     ensures { result ≡ instruction_of (instruction_at (payload file.now) at) }
 {
-    operation_of(read(file, at)).unwrap_or(Instruction::Stop)
+    match operation_of(read(file, at)) {
+        Some(instruction) => instruction,
+        None => Instruction::Stop,
+    }
 }
