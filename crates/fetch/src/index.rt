@@ -10,8 +10,8 @@ use readers::{alternative_offset, head};
 // By a function's number: the place of its arity, and that of its first instruction.
 #[derive(Clone, Copy)]
 pub struct Index {
-    arities: [u32; 32],
-    codes: [u32; 32],
+    pub arities: [u32; 32],
+    pub codes: [u32; 32],
 }
 
 // For the crates above: the index of a parsed file.
