@@ -2,7 +2,7 @@
 // with the place of the refusal marked. Where the input cannot be read or a line cannot be written, the reason goes to standard error.
 #![tactic(auto)]
 
-ghost use Rattle.std.specs.Prelude.{◌≡◌, None, IfSome};
+ghost use Rattle.std.specs.Prelude.{◌≡◌, ◌<◌, None, Some, IfSome};
 ghost use Rattle.rules.specs.Answers.{told};
 ghost use Rattle.rules.specs.Base.{found};
 ghost use Rattle.rules.specs.Check.{verdict_of};
@@ -35,7 +35,14 @@ fn verdict_on(file: &[u8], counts: Option<Counts>) -> Result<Counts, Reason>
 }
 
 // The counts of a program, which are 0 where it was refused.
-fn counts_of(program: OpenProgram<'_>) -> Option<Counts> {
+fn counts_of(program: OpenProgram<'_>) -> Option<Counts>
+    ensures refused { program.entry.types ≡ 0 → result ≡ None }
+    ensures accepted { 0 < program.entry.types → result ≡ Some (record {
+      types = program.entry.types;
+      constructors = program.entry.constructors;
+      functions = program.entry.functions;
+    }) }
+{
     if program.types == 0 {
         return None;
     }
