@@ -111,10 +111,9 @@ pub fn list_code(
         let here = waiting[i];
         let is_marked = marks_instruction(refusal, g, i);
         let ins = list_instruction(rt, file, at, is_marked, i, here)?;
-        // Where the flow is right, nothing leads past 256: testing that is shorter than carrying it along.
-        match here.and_then(|stack| states::leave(file, names, d.result, ins, stack)) {
-            Some(TypedStep::Next(next)) if i < 256 => waiting[i + 1] = Some(next),
-            Some(TypedStep::Both { next, to }) if i < 256 && to <= 256 => {
+        match here.and_then(|stack| states::leave(file, names, d.result, i, ins, stack)) {
+            Some(TypedStep::Next(next)) => waiting[i + 1] = Some(next),
+            Some(TypedStep::Both { next, to }) => {
                 waiting[to] = here;
                 waiting[i + 1] = Some(next);
             }

@@ -1,5 +1,5 @@
 // The types of the stack on arrival at an instruction, as the type pass of the check works them out.
-ghost use Rattle.std.specs.Prelude.{◌≤◌, IfSome};
+ghost use Rattle.std.specs.Prelude.{◌≡◌, ◌+◌, ◌≤◌, ℕ, Some, IfSome};
 
 use operands::{Stack, TypedStep};
 use rules::records::{ConstructorRecord, Declaration, HeadRecord, Instruction};
@@ -47,16 +47,20 @@ fn function_named(file: &[u8], names: &Names, g: u8) -> Option<Declaration>
     Some(head.declaration)
 }
 
-// What leaves an instruction of a function with this result type where this stack arrives, by the rule of its operation: nothing where
-// the rule is broken.
+// What leaves instruction i of a function with this result type where this stack arrives, by the rule of its operation: nothing where
+// the rule is broken. Where the flow is right, nothing leads past 256: testing that is shorter than carrying it along.
 pub fn leave(
     file: &[u8],
     names: &Names,
     res: u8,
+    i: usize,
     ins: Instruction,
     st: Stack,
-) -> Option<TypedStep> {
-    match ins {
+) -> Option<TypedStep>
+    ensures next { (next : Stack) → result ≡ Some (TypedStep.Next next) → i + 1 ≤ 256 }
+    ensures both { (next : Stack) (to : ℕ) → result ≡ Some (TypedStep.Both next to) → (i + 1 ≤ 256) × (to ≤ 256) }
+{
+    let step = match ins {
         Instruction::Load(a) => operands::load(st, a),
         Instruction::Build(c) => operands::make(st, constructor_named(file, names, c)),
         Instruction::Call(g) => operands::make(st, function_named(file, names, g)),
@@ -64,5 +68,11 @@ pub fn leave(
         Instruction::Branch(c, b) => operands::branch(st, constructor_named(file, names, c), b),
         Instruction::Return => operands::finish(st, res),
         Instruction::Stop => Some(TypedStep::Ends),
+    }?;
+    match step {
+        TypedStep::Ends => Some(step),
+        TypedStep::Next(_) if i < 256 => Some(step),
+        TypedStep::Both { to, .. } if i < 256 && to <= 256 => Some(step),
+        _ => None,
     }
 }
