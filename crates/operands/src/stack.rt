@@ -3,11 +3,12 @@ ghost use Rattle.std.specs.Prelude.{◌≡◌, ◌≤◌, length};
 
 use rules::records::Declaration;
 
-// The top is at height - 1.
+// The top is at height - 1. The types come first: a copy reads sixteen bytes and then eight, and waits where they were written as
+// eight and then sixteen.
 #[derive(Clone, Copy)]
 pub struct Stack {
-    pub height: usize,
     pub types: [u8; 16],
+    pub height: usize,
     pub ghost places: { length types ≡ 16 },
     pub ghost within: { height ≤ 16 },
 }
