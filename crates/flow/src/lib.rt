@@ -27,7 +27,7 @@ enum Arrivals {
 // What leaves an instruction that is right: nothing; a path to the next one, which has passed a build or call or has not; or one to
 // the next one and one to a branch's else target, neither of which has.
 #[derive(Clone, Copy, PartialEq, Eq)]
-enum FlowStep {
+pub enum FlowStep {
     Ends,
     Next { past: bool },
     Both { to: usize },
