@@ -1,6 +1,6 @@
 -- From a frame that rests at a call or a return to the next top frame.
 use Prim.Native.Nat.{ℕ, suc, ◌+◌, ◌-◌, ◌/◌, ◌≤◌, ◌<◌}
-use mathlib.Core.Path.{◌≡◌, sym, ap, ◌∙◌, subst}
+use mathlib.Core.Path.{◌≡◌, refl, sym, ap, ◌∙◌, subst}
 use mathlib.Core.List.{List, ◌∷◌}
 use Rattle.std.specs.Prelude.{Some, Result, Ok, Err}
 use native.Mathlib.Omega.{arith}
@@ -33,7 +33,8 @@ use Rattle.steps.specs.declared.state.Rest.TheVariants.{Calls, Returns, Stops, S
 use Rattle.steps.specs.declared.state.Table.{Table}
 use Rattle.steps.specs.declared.state.Table.TheVariants.{Stack, Frames}
 use Rattle.machine.specs.Turns.{Rested, Over, Turned, waiting_for, entered, Enters, enter_deep, enter_full}
-use Rattle.machine.specs.Turns.{enter_goes, left, Leaves, leave_goes, Settles}
+use Rattle.machine.specs.Turns.{enter_goes, left, Leaves, leave_goes, Settles, Closes, closes_result, closes_stops, closes_spent}
+use Rattle.machine.specs.Turns.{closes_full}
 use Rattle.machine.specs.declared.run.End.{End}
 use Rattle.machine.specs.declared.run.End.TheVariants as ends
 use Rattle.steps.proofs.StandLaws.{current_known}
@@ -209,21 +210,29 @@ ended file m cells stack frames r why end over = record {
 }
 
 module _ (file : List ℕ) (m : Limits) (cells stack : List ℕ) (frames : List Frame) (r : Registers) where
-  pub stops_turned : Turned file m cells stack frames r Stops stack frames (Err ends.Stops)
+  stops_turned : Turned file m cells stack frames r Stops stack frames (Err ends.Stops)
   stops_turned = ended file m cells stack frames r Stops ends.Stops (λ budget j on at. at)
 
-  pub spent_turned : Parsed file → {end : End} → Settles (payload file) r end
+  spent_turned : Parsed file → {end : End} → Settles (payload file) r end
       → Turned file m cells stack frames r Spent stack frames (Err end)
   spent_turned parsed {end} settles =
       ended file m cells stack frames r Spent end (λ budget j on at.
       settled_over file parsed m budget cells stack r j (frames_in frames r.depth) on (frames_length frames r.depth) at settles)
 
-  pub full_turned : (x : Table) → Turned file m cells stack frames r (OutOf x) stack frames (Err (ends.OutOf x))
+  full_turned : (x : Table) → Turned file m cells stack frames r (OutOf x) stack frames (Err (ends.OutOf x))
   full_turned x = ended file m cells stack frames r (OutOf x) (ends.OutOf x) (λ budget j on at. at)
 
-  pub result_turned : r.depth ≡ 0 → Turned file m cells stack frames r Returns stack frames (Err ends.Result)
+  result_turned : r.depth ≡ 0 → Turned file m cells stack frames r Returns stack frames (Err ends.Result)
   result_turned alone =
       ended file m cells stack frames r Returns ends.Result (λ budget j on at. (omega (arith, frames_length frames r.depth), at.1))
+
+  -- in whatever way it ends
+  pub over_turned : Parsed file → {why : Rest} {end : End} → (why ≡ Returns → r.depth ≡ 0) → Closes (payload file) r why end
+      → Turned file m cells stack frames r why stack frames (Err end)
+  over_turned parsed alone closes_result = result_turned (alone refl)
+  over_turned parsed alone closes_stops = stops_turned
+  over_turned parsed alone (closes_spent settles) = spent_turned parsed settles
+  over_turned parsed alone (closes_full {table = x}) = full_turned x
 
 ---- Return
 

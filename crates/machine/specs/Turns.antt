@@ -18,6 +18,7 @@ use Rattle.steps.specs.Stands.{Standing, LeadsTo}
 use Rattle.steps.specs.Steps.{number_for, Refuses, Rests}
 use Rattle.steps.specs.declared.state.Registers.{Registers}
 use Rattle.steps.specs.declared.state.Rest.{Rest}
+use Rattle.steps.specs.declared.state.Rest.TheVariants.{Returns, Stops, Spent, OutOf}
 use Rattle.steps.specs.declared.state.Table.{Table}
 use Rattle.steps.specs.declared.state.Table.TheVariants.{Stack, Frames}
 use Rattle.machine.specs.declared.run.End.{End}
@@ -110,3 +111,10 @@ pub data Settles (bytes : List ℕ) (r : Registers) : End → Type 0 where
   settles_above : (r.depth ≡ 0 → ⊥) → Settles bytes r ends.Spent
   settles_spent : {w : ℕ} → WordThere bytes (offset_at r.at) w → (w % 256 ≡ 5 → ⊥) → Settles bytes r ends.Spent
   settles_result : {w : ℕ} → r.depth ≡ 0 → WordThere bytes (offset_at r.at) w → w % 256 ≡ 5 → Settles bytes r ends.Result
+
+-- how the run ends at a frame that rests and gives way to no other
+pub data Closes (bytes : List ℕ) (r : Registers) : Rest → End → Type 0 where
+  closes_result : Closes bytes r Returns ends.Result
+  closes_stops : Closes bytes r Stops ends.Stops
+  closes_spent : {end : End} → Settles bytes r end → Closes bytes r Spent end
+  closes_full : {table : Table} → Closes bytes r (OutOf table) (ends.OutOf table)

@@ -1,9 +1,10 @@
 // The run: the top frame until it rests, then a call, a return or an end, and so on.
-ghost use Rattle.std.specs.Prelude.{List, ℕ, ◌+◌, ◌≤◌, length};
+ghost use Rattle.std.specs.Prelude.{◌≡◌, List, ℕ, ◌+◌, ◌≤◌, length};
 ghost use Rattle.rules.specs.Container.{payload};
 ghost use Rattle.rules.specs.Established.{Verified};
 ghost use Rattle.fetch.specs.Places.{offset_at, Inside};
-ghost use Rattle.machine.specs.Turns.{Rested, Turned, Settles};
+ghost use Rattle.steps.specs.declared.state.Rest.TheVariants.{Calls};
+ghost use Rattle.machine.specs.Turns.{Rested, Turned, Settles, Closes};
 ghost use Rattle.machine.specs.Runs.{Begun, Ends};
 
 use crate::frames::{enter, leave, waiting};
@@ -36,6 +37,21 @@ fn settled(file: &[u8], r: Registers) -> End
     }
 }
 
+// How the run ends at a frame that rests and gives way to no other. It never sees the frame table nor the stack.
+fn over(file: &[u8], r: Registers, why: Rest) -> End
+    requires { (Verified file.now × Inside r.at × (offset_at r.at + 4 ≤ length (payload file.now)))
+        × ((g : ℕ) → why ≡ Calls g → ⊥) }
+    ensures { Closes (payload file.now) r why result }
+{
+    match why {
+        Rest::Calls(_) => unreachable!(),
+        Rest::Returns => End::Result,
+        Rest::Stops => End::Stops,
+        Rest::Spent => settled(file, r),
+        Rest::OutOf(table) => End::OutOf(table),
+    }
+}
+
 // A frame that rests at a call or a return gives way to another, or the run ends there.
 fn turn(
     file: &[u8],
@@ -59,15 +75,10 @@ fn turn(
                 Err(table) => Err(End::OutOf(table)),
             }
         }
-        Rest::Returns => {
-            if r.depth == 0 {
-                return Err(End::Result);
-            }
+        Rest::Returns if r.depth != 0 => {
             Ok(leave(file, index, stack, r, frame_at(frames, r.depth - 1)))
         }
-        Rest::Stops => Err(End::Stops),
-        Rest::Spent => Err(settled(file, r)),
-        Rest::OutOf(table) => Err(End::OutOf(table)),
+        _ => Err(over(file, r, why)),
     }
 }
 
