@@ -1,12 +1,13 @@
 -- Laws of the argument check: what each byte leaves to be read, and what is left of the whole check.
 use Prim.Native.Nat.{ℕ, ◌+◌, ◌-◌, ◌≤◌, ◌<◌}
-use mathlib.Core.Path.{◌≡◌, sym, ap, ◌∙◌}
-use mathlib.Core.List.{List, [], ◌∷◌, ◌++◌, append-nil}
+use mathlib.Core.Path.{◌≡◌, sym, ap, ◌∙◌, refl}
+use mathlib.Core.List.{List, [], ◌∷◌, ◌++◌, append_assoc, append-nil}
 use Rattle.std.specs.Prelude.{None, Some}
 use native.Mathlib.Omega.{arith}
+use native.Mathlib.Nat.{add-zero}
 use native.Mathlib.Numerals.{add-one}
-use lib.ListN.{length, get_or, take, drop, length-append, length-drop, length-take, drop_of_length-le}
-use lib.Seq.{drop-cons, drop-append_seam, drop-drop}
+use lib.ListN.{length, get_or, set, take, drop, length-append, length-drop, length-take, drop_of_length-le}
+use lib.Seq.{sets, sets-eq, take-suc, take_all, drop-cons, drop-append_seam, drop-drop}
 use borrow.Author.Tests.{eq-eqb, ne_eqb, le-leb, lt-leb}
 use Rattle.rules.specs.declared.records.Declaration.{Declaration}
 use Rattle.rules.specs.Base.{refusal, found, refused, Check, passed, byte_at}
@@ -17,10 +18,55 @@ use Rattle.rules.specs.Records.{program_in}
 use Rattle.rules.specs.There.{RecordsThere}
 use Rattle.rules.specs.Established.{Verified, Parsed}
 use Rattle.rules.specs.Prefix.{read_byte, read_bytes, arguments_right}
+use Rattle.rules.proofs.ListLaws.{sets_append}
 use Rattle.rules.proofs.NumberedLaws.{numbered_past}
 use Rattle.rules.proofs.RecordLaws.{arguments_length, records_there}
 use Rattle.fetch.proofs.IndexLaws.{constructor_is}
 use Rattle.arguments.specs.Reading.{HeadThere, ReadsByte}
+
+---- A few types, put one by one
+
+put_more : (l : List ℕ) (at : ℕ) (xs : List ℕ) (j : ℕ) (l' : List ℕ) → j < length xs → l' ≡ sets l at (take j xs)
+    → set l' (at + j) (get_or xs j 0) ≡ sets l at (take (j + 1) xs)
+put_more l at xs j l' h e =
+    let n : length (take j xs) ≡ j = length-take j xs ∙ omega arith in
+    let t : take (j + 1) xs ≡ take j xs ++ (get_or xs j 0 ∷ []) = rw add-one (take-suc xs j 0 h) in
+    sym (ap (sets l at) t ∙ sets_append l at (take j xs) (get_or xs j 0 ∷ []) ∙ rw (n, ← e))
+
+module _ (l : List ℕ) (at : ℕ) (xs : List ℕ) (room : at + length xs ≤ length l) where
+  -- the list with all of them in it
+  abbrev all_in : List ℕ
+  all_in = take at l ++ (xs ++ drop (length xs) (drop at l))
+
+  put_all : (n : ℕ) {l' : List ℕ} → length xs ≡ n → l' ≡ sets l at (take n xs) → l' ≡ all_in
+  put_all n e p =
+      let tail : take at l ++ xs ++ drop (at + length xs) l ≡ all_in = rw (append_assoc, drop-drop) in
+      p ∙ ap (sets l at) (take_all n xs (omega arith)) ∙ sets-eq xs l at room ∙ tail
+
+  one : 1 ≤ length xs → set l at (get_or xs 0 0) ≡ sets l at (take 1 xs)
+  one h = rw add-zero at (put_more l at xs 0 l h refl)
+
+  two : 2 ≤ length xs → set (set l at (get_or xs 0 0)) (at + 1) (get_or xs 1 0) ≡ sets l at (take 2 xs)
+  two h = put_more l at xs 1 _ h (one (omega arith))
+
+  three : 3 ≤ length xs → set (set (set l at (get_or xs 0 0)) (at + 1) (get_or xs 1 0)) (at + 2) (get_or xs 2 0) ≡ sets l at (take 3 xs)
+  three h = put_more l at xs 2 _ h (two (omega arith))
+
+  pub put_none : length xs ≡ 0 → l ≡ all_in
+  put_none e = put_all 0 e refl
+
+  pub put_one : length xs ≡ 1 → set l at (get_or xs 0 0) ≡ all_in
+  put_one e = put_all 1 e (one (omega arith))
+
+  pub put_two : length xs ≡ 2 → set (set l at (get_or xs 0 0)) (at + 1) (get_or xs 1 0) ≡ all_in
+  put_two e = put_all 2 e (two (omega arith))
+
+  pub put_three : length xs ≡ 3 → set (set (set l at (get_or xs 0 0)) (at + 1) (get_or xs 1 0)) (at + 2) (get_or xs 2 0) ≡ all_in
+  put_three e = put_all 3 e (three (omega arith))
+
+  pub put_four : length xs ≡ 4
+      → set (set (set (set l at (get_or xs 0 0)) (at + 1) (get_or xs 1 0)) (at + 2) (get_or xs 2 0)) (at + 3) (get_or xs 3 0) ≡ all_in
+  put_four e = put_all 4 e (put_more l at xs 3 _ (omega arith) (three (omega arith)))
 
 ---- One byte
 

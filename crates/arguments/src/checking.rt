@@ -1,5 +1,5 @@
 // The argument check: one type after the other is read, and each constructor puts its argument types in place of its own.
-ghost use Rattle.std.specs.Prelude.{◌≡◌, ◌≤◌, length};
+ghost use Rattle.std.specs.Prelude.{◌≡◌, ◌++◌, ◌+◌, ◌≤◌, length, take, drop};
 ghost use Rattle.rules.specs.Base.{byte_at};
 ghost use Rattle.rules.specs.Answers.{told};
 ghost use Rattle.rules.specs.Container.{payload};
@@ -20,6 +20,31 @@ fn arguments_of(d: &Declaration) -> &[u8]
     &d.types[..usize::from(d.arity)]
 }
 
+// At most four types are put at a place, one after the other: for so few a copy whose length is not known takes longer, and an argument
+// check does this for each byte.
+fn put_few(types: &mut [u8; 256], to: usize, few: &[u8])
+    requires { (length few.now ≤ 4) × (to + length few.now ≤ 256) }
+    ensures { types.new ≡ take to types.old ++ (few.now ++ drop (length few.now) (drop to types.old)) }
+{
+    let n = few.len();
+    if n == 0 {
+        return;
+    }
+    types[to] = few[0];
+    if n == 1 {
+        return;
+    }
+    types[to + 1] = few[1];
+    if n == 2 {
+        return;
+    }
+    types[to + 2] = few[2];
+    if n == 3 {
+        return;
+    }
+    types[to + 3] = few[3];
+}
+
 // One byte of the arguments: from where on the types stand that are still to be read, or none where the byte is wrong.
 fn read_byte(file: &[u8], known: usize, types: &mut [u8; 256], at: usize, c: usize) -> Option<usize>
     requires parsed { Parsed file.now }
@@ -35,7 +60,7 @@ fn read_byte(file: &[u8], known: usize, types: &mut [u8; 256], at: usize, c: usi
         return None;
     }
     let next = at + 1 - arguments.len();
-    types[next..at + 1].copy_from_slice(arguments);
+    put_few(types, next, arguments);
     Some(next)
 }
 

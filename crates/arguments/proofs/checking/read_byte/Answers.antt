@@ -1,6 +1,7 @@
 -- Each test is one of the rule for a byte.
 use mathlib.Core.Logic.{⊎_elim}
 use native.Mathlib.Omega.{arith}
+use mathlib.Core.Path.{refl}
 use Rattle.arguments.proofs.ReadingLaws.{read_end, read_unknown, read_type, read_many, byte_unknown, declaration_there}
 use Rattle.arguments.proofs.ReadingLaws.{declared_arity, declared, byte_right}
 use Rattle.arguments.proofs.checking.read_byte.Goals.{then-d-types-via-then-d-types, then-d-types-via-else-d-types+then-arguments-at}
@@ -36,6 +37,7 @@ pub returns : goal.returns
 returns c =
     let d = c.constructor_declaration-d in
     let p = c.arguments_of-arguments.ensures in
-    byte_right c.requires.parsed c.args.c c.args.known c.requires.at_bound.1 c.if-c-known.false d.result d.ensures
-    c.args.at c.args.types.now c.told-types c.if-at-ge256.false c.if-d-types.false p.types c.copy_from_slice.ensures.after
-    _ _ (omega arith) (omega arith)
+    rw c.put_few.ensures
+    (byte_right c.requires.parsed c.args.c c.args.known c.requires.at_bound.1 c.if-c-known.false d.result d.ensures
+    c.args.at c.args.types.now c.told-types c.if-at-ge256.false c.if-d-types.false p.types refl
+    _ _ (omega arith) refl)
